@@ -1,0 +1,160 @@
+-- By the cases of the check, each from what its own function tells. Assumes nothing.
+use Rattle.table.proofs.Lowest.{tells-le, tells-as}
+use Rattle.table.proofs.Children.{tiled, stands-somebodys, somebodys-stands}
+use Rattle.table.specs.declared.check.Check.the-variants.{Layout, Orphan}
+use denote.Ref.{now}
+use lib.ListN.{getD}
+use lib.Dec.{eqb}
+use native.Mathlib.Omega.{arith}
+use mathlib.Core.Logic.{inl}
+use borrow.Author.Needs.{needs}
+use Rattle.table.proofs.check.holds_at.Statement.{statement}
+use Rattle.table.proofs.check.holds_at.Tie as tie
+
+enum-told : tie.Need-enum-told
+enum-told c = search needs
+
+is-headed-requires : tie.Need-is-headed-requires
+is-headed-requires c κs = search needs
+
+enum-told-2 : tie.Need-enum-told-2
+enum-told-2 c = search needs
+
+is-laid-requires : tie.Need-is-laid-requires
+is-laid-requires c κs = search needs
+
+enum-told-3 : tie.Need-enum-told-3
+enum-told-3 c = search needs
+
+record-word-requires : tie.Need-record-word-requires
+record-word-requires c κs = search needs
+
+enum-told-4 : tie.Need-enum-told-4
+enum-told-4 c = search needs
+
+record-word-requires-2 : tie.Need-record-word-requires-2
+record-word-requires-2 c κs = search needs
+
+record-word-requires-3 : tie.Need-record-word-requires-3
+record-word-requires-3 c κs = search needs
+
+right-count-requires : tie.Need-right-count-requires
+right-count-requires c κs = search needs
+
+enum-told-5 : tie.Need-enum-told-5
+enum-told-5 c = search needs
+
+follows-requires : tie.Need-follows-requires
+follows-requires c κs =
+    let known = rw (c .enum-told5 .given .1) at (c .before .before .before .pre) in
+    (omega (arith, known .within), known .before)
+
+enum-told-6 : tie.Need-enum-told-6
+enum-told-6 c = search needs
+
+children-requires : tie.Need-children-requires
+children-requires c κs = search needs
+
+types-requires : tie.Need-types-requires
+types-requires c κs = search needs
+
+bounded-requires : tie.Need-bounded-requires
+bounded-requires c κs = search needs
+
+enum-told-7 : tie.Need-enum-told-7
+enum-told-7 c = search needs
+
+children-requires-2 : tie.Need-children-requires-2
+children-requires-2 c κs = search needs
+
+differ-requires : tie.Need-differ-requires
+differ-requires c κs = search needs
+
+enum-told-8 : tie.Need-enum-told-8
+enum-told-8 c = search needs
+
+returns : tie.Need-returns
+returns c = rw (c .before .enum-told8 .given .1) (inl (c .if1 .taken))
+
+element-copy-out-result : tie.Need-element-copy-out-result
+element-copy-out-result c =
+    let known = rw (c .before .enum-told8 .given .1) at (c .before .before .before .before .pre) in
+    omega (arith, known .within, known .earlier Layout (omega arith) 0 (omega arith) .few)
+
+enum-told-9 : tie.Need-enum-told-9
+enum-told-9 c = search needs
+
+is-counted-requires : tie.Need-is-counted-requires
+is-counted-requires c κs = search needs
+
+returns-2 : tie.Need-returns-2
+returns-2 c = rw (c .before .enum-told .given .1) (c .is-headed .ensures)
+
+returns-3 : tie.Need-returns-3
+returns-3 c = rw (c .before .enum-told2 .given .1) (c .is-laid .ensures)
+
+returns-4 : tie.Need-returns-4
+returns-4 c = rw (c .before .enum-told3 .given .1, ← c .record-word .ensures .is) (tells-le (c .record-word .result) 4)
+
+returns-5 : tie.Need-returns-5
+returns-5 c = rw (c .before .before .before .enum-told4 .given .1, ← c .before .before .record-word2 .ensures .is, ← c .before .record-word3 .ensures .is) (c .right-count .ensures)
+
+returns-6 : tie.Need-returns-6
+returns-6 c = rw (c .before .enum-told5 .given .1) (c .follows .ensures)
+
+returns-7 : tie.Need-returns-7
+returns-7 c = rw (c .before .before .before .enum-told6 .given .1, ← c .before .before .children .ensures, ← c .before .types .ensures .is) (c .bounded .ensures)
+
+returns-8 : tie.Need-returns-8
+returns-8 c = rw (c .before .before .enum-told7 .given .1, ← c .before .children2 .ensures) (c .differ .ensures)
+
+returns-9 : tie.Need-returns-9
+returns-9 c =
+    let a = c .before .before .before .before .before .args in
+    let known = rw (c .before .before .enum-told8 .given .1) at (c .before .before .before .before .before .pre) in
+    let g = tiled (now (a .words)) Orphan (omega arith) (known .earlier) in
+    let few = g .laid .few in
+    rw (c .before .before .enum-told8 .given .1)
+    (tells-as (stands-somebodys g (a .p) (known .within)) (somebodys-stands g (a .p) (c .before .if1 .left)) (eqb (getD (now (a .seen)) (a .p) 0) 1)
+    (known .seen-right (a .p) (omega (arith, known .within))))
+
+returns-10 : tie.Need-returns-10
+returns-10 c = rw (c .before .enum-told9 .given .1) (c .is-counted .ensures)
+
+pub holds-at-spec : {M : Type 1} → statement M
+holds-at-spec =
+    tie.close
+    (tie.spec
+    enum-told
+    is-headed-requires
+    enum-told-2
+    is-laid-requires
+    enum-told-3
+    record-word-requires
+    enum-told-4
+    record-word-requires-2
+    record-word-requires-3
+    right-count-requires
+    enum-told-5
+    follows-requires
+    enum-told-6
+    children-requires
+    types-requires
+    bounded-requires
+    enum-told-7
+    children-requires-2
+    differ-requires
+    enum-told-8
+    returns
+    element-copy-out-result
+    enum-told-9
+    is-counted-requires
+    returns-2
+    returns-3
+    returns-4
+    returns-5
+    returns-6
+    returns-7
+    returns-8
+    returns-9
+    returns-10)

@@ -1,0 +1,127 @@
+-- What a run of words must hold to be a table, as nine checks made in the order of their numbers, and what checking it answers
+-- (document 01, "The schema table" and "Numbers of the answers and their order"). Assumes nothing.
+use Prim.Native.Nat.{ℕ, _+_, _*_, _≤_, _<_}
+use mathlib.Core.Path.{_≡_}
+use mathlib.Core.Logic.{_≢_, _⊎_}
+use mathlib.Core.List.{List}
+use lib.ListN.{length, getD}
+use Rattle.table.specs.Lowest.{LowestAt}
+use Rattle.table.specs.Words.{types, entries, kindAt, countAt, firstAt, childList, running}
+use Rattle.table.specs.Seen.{Seen}
+use Rattle.table.specs.Rule.{childrenAt, childAt, Child}
+use Rattle.table.specs.Privilege.{privileges}
+use Rattle.table.specs.declared.check.Check.{Check}
+use Rattle.table.specs.declared.check.Check.the-variants.{Format, Layout, Kind, Count, Stretch, Bounds, Twice, Orphan, Total}
+
+-- 1: at least 8 words, and word 0 is 1
+pub record Headed (ws : List ℕ) : Type 0 where
+  pub long : 8 ≤ length ws
+  pub format : getD ws 0 0 ≡ 1
+
+-- 2: words 1 to 6 are as the header says, and the run is as long as word 1
+pub record Laid (ws : List ℕ) : Type 0 where
+  pub some : 1 ≤ types ws
+  pub few : types ws ≤ 256
+  pub root : getD ws 3 0 ≡ 0
+  pub records : getD ws 4 0 ≡ 8
+  pub short : entries ws ≤ 1024
+  pub list : getD ws 6 0 ≡ 8 + 3 * types ws
+  pub size : getD ws 1 0 ≡ 8 + 3 * types ws + entries ws
+  pub lent : length ws ≡ getD ws 1 0
+
+-- 4: empty and text have no child, sequence and choice have 1 to 16, star has one
+pub record RightCount (kind count : ℕ) : Type 0 where
+  pub empty : kind ≡ 0 → count ≡ 0
+  pub text : kind ≡ 1 → count ≡ 0
+  pub sequence : kind ≡ 2 → (1 ≤ count) × (count ≤ 16)
+  pub choice : kind ≡ 3 → (1 ≤ count) × (count ≤ 16)
+  pub star : kind ≡ 4 → count ≡ 1
+
+-- 5: a type's first child is the running index; past the last type that index is C
+pub record Follows (ws : List ℕ) (t : ℕ) : Type 0 where
+  pub first : t < types ws → firstAt ws t ≡ running ws t
+  pub total : t ≡ types ws → running ws t ≡ entries ws
+
+-- 6: a child's number is below E and greater than its parent's
+abbrev pub Bounded : ℕ → ℕ → List ℕ → Type 0
+Bounded e t kids = (i : ℕ) → i < length kids → (getD kids i 0 < e) × (t < getD kids i 0)
+
+-- 7: children are all different
+abbrev pub Differ : List ℕ → Type 0
+Differ kids = (i j : ℕ) → i < j → j < length kids → getD kids i 0 ≢ getD kids j 0
+
+-- 8: every type but 0 is somebody's child
+abbrev pub Somebodys : List ℕ → ℕ → Type 0
+Somebodys ws t = (t ≡ 0) ⊎ ((y : ℕ) × Child ws y t)
+
+-- 9: V is at most 4,096 and is word 7
+pub record Counted (ws : List ℕ) : Type 0 where
+  pub few : privileges ws ≤ 4096
+  pub stated : getD ws 7 0 ≡ privileges ws
+
+-- what a check asks at each of its places
+abbrev pub Holds : List ℕ → Check → ℕ → Type 0
+Holds ws Format p = Headed ws
+Holds ws Layout p = Laid ws
+Holds ws Kind t = kindAt ws t ≤ 4
+Holds ws Count t = RightCount (kindAt ws t) (countAt ws t)
+Holds ws Stretch t = Follows ws t
+Holds ws Bounds t = Bounded (types ws) t (childrenAt ws t)
+Holds ws Twice t = Differ (childrenAt ws t)
+Holds ws Orphan t = Somebodys ws t
+Holds ws Total p = Counted ws
+
+-- its places in a table of e types: the types; place E too for the total of check 5; place 0 alone where none is named
+abbrev pub placesIn : ℕ → Check → ℕ
+placesIn e Format = 1
+placesIn e Layout = 1
+placesIn e Kind = e
+placesIn e Count = e
+placesIn e Stretch = e + 1
+placesIn e Bounds = e
+placesIn e Twice = e
+placesIn e Orphan = e
+placesIn e Total = 1
+
+abbrev pub placesOf : List ℕ → Check → ℕ
+placesOf ws check = placesIn (types ws) check
+
+-- its number
+abbrev pub numberOf : Check → ℕ
+numberOf Format = 1
+numberOf Layout = 2
+numberOf Kind = 3
+numberOf Count = 4
+numberOf Stretch = 5
+numberOf Bounds = 6
+numberOf Twice = 7
+numberOf Orphan = 8
+numberOf Total = 9
+
+abbrev pub Passes : List ℕ → Check → Type 0
+Passes ws check = (p : ℕ) → p < placesOf ws check → Holds ws check p
+
+-- the checks of lower numbers pass
+abbrev pub Earlier : List ℕ → Check → Type 0
+Earlier ws check = (c : Check) → numberOf c < numberOf check → Passes ws c
+
+-- what is known where a check looks at place p, with the numbers seen in the child list
+pub record Asked (ws seen : List ℕ) (check : Check) (p : ℕ) : Type 0 where
+  pub earlier : Earlier ws check
+  pub seen-right : Seen (childList ws) seen
+  pub within : p < placesOf ws check
+  pub before : (q : ℕ) → q < p → Holds ws check q
+
+-- a check is the first that fails, and place is the lowest at which it does
+pub record Refused (ws : List ℕ) (check : Check) (place : ℕ) : Type 0 where
+  pub earlier : Earlier ws check
+  pub lowest : LowestAt (Holds ws check) (placesOf ws check) place
+
+-- the words are a table
+pub record Accepted (ws : List ℕ) : Type 0 where
+  pub passes : (check : Check) → Passes ws check
+
+-- the answer's number and place
+pub data TableAnswer (ws : List ℕ) (number place : ℕ) : Type 0 where
+  refused : (check : Check) → number ≡ numberOf check → Refused ws check place → TableAnswer ws number place
+  accepted : number ≡ 0 → place ≡ privileges ws → Accepted ws → TableAnswer ws number place

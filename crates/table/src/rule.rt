@@ -1,0 +1,74 @@
+// A type's rule and its children. Contracts cite specs/Rule.
+ghost use mathlib.Core.Path.{_≡_};
+ghost use Rattle.table.specs.Rule.{ruleOf, ruleAt, firstIn, countIn, ReadAs, childrenAt};
+use super::words::record_word;
+use super::words::stretch;
+use super::words::types;
+
+// A type's rule, with the index of its first child in the child list and the number of its children.
+pub enum Rule {
+    Empty,
+    Text,
+    Sequence { first: usize, count: usize },
+    Choice { first: usize, count: usize },
+    Star { first: usize, count: usize },
+}
+
+fn rule_of(kind: usize, first: usize, count: usize) -> Rule
+    ensures { λ r. ⌜ r ≡ ruleOf kind first count ⌝ }
+{
+    match kind {
+        0 => Rule::Empty,
+        1 => Rule::Text,
+        2 => Rule::Sequence { first, count },
+        3 => Rule::Choice { first, count },
+        4 => Rule::Star { first, count },
+        _ => Rule::Empty,
+    }
+}
+
+// The rule of type t.
+pub fn rule_at(words: &[u16], t: usize) -> Rule
+    ensures { λ r. ⌜ ReadAs (ruleAt (now (words .entry)) t) r ⌝ }
+{
+    rule_of(
+        record_word(words, t, 0),
+        record_word(words, t, 2),
+        record_word(words, t, 1),
+    )
+}
+
+fn first_in(rule: Rule) -> usize
+    ensures { λ r. ⌜ r ≡ firstIn rule ⌝ }
+{
+    match rule {
+        Rule::Empty => 0,
+        Rule::Text => 0,
+        Rule::Sequence { first, count: _ } => first,
+        Rule::Choice { first, count: _ } => first,
+        Rule::Star { first, count: _ } => first,
+    }
+}
+
+// How many children a rule has.
+pub fn count_in(rule: Rule) -> usize
+    ensures { λ r. ⌜ r ≡ countIn rule ⌝ }
+{
+    match rule {
+        Rule::Empty => 0,
+        Rule::Text => 0,
+        Rule::Sequence { first: _, count } => count,
+        Rule::Choice { first: _, count } => count,
+        Rule::Star { first: _, count } => count,
+    }
+}
+
+// The children of type t, as a part of the words.
+pub fn children(words: &[u16], t: usize) -> &[u16]
+    ensures { λ r. ⌜ now r ≡ childrenAt (now (words .entry)) t ⌝ }
+{
+    let rule = rule_at(words, t);
+    let a = 8 + 3 * types(words) + first_in(rule);
+    let b = a + count_in(rule);
+    stretch(words, a, b)
+}
