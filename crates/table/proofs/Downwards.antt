@@ -3,13 +3,12 @@ use Prim.Native.Nat.{ℕ, _+_, _-_, _≤_, _<_}
 use mathlib.Core.Path.{_≡_, refl}
 use mathlib.Core.List.{List}
 use native.Mathlib.Omega.{arith}
-use lib.ListN.{length, getD, set}
-use lib.Seq.{getD-set-same, getD-set-other}
+use lib.ListN.{getD}
 use Rattle.table.specs.Words.{types}
 use Rattle.table.specs.Rule.{Child}
 use Rattle.table.specs.Check.{Accepted}
 use Rattle.table.specs.Order.{BottomUp}
-use Rattle.table.specs.declared.check.Check.the-variants.{Layout, Bounds}
+use Rattle.table.specs.declared.check.Check.the-variants.{Bounds}
 
 child-above : {ws : List ℕ} {y x : ℕ} → Accepted ws → Child ws y x → y < x
 child-above {ws} {y} {x} a c = rw (c .is) at (a .passes Bounds y (c .parent) (c .at) (c .within) .1)
@@ -24,6 +23,3 @@ downwards ws order h a = record {
   where
     back : (x : ℕ) → x < types ws → getD order (types ws - 1 - x) 0 ≡ x
     back x l = omega (arith, h (types ws - 1 - x) (omega arith))
-
-pub few-types : {ws : List ℕ} → Accepted ws → types ws ≤ 256
-few-types a = a .passes Layout 0 (omega arith) .few

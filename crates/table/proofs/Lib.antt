@@ -7,5 +7,6 @@ pub mod Privileges
 pub mod SeenSoFar
 pub mod Checks
 pub mod Children
+pub mod Facts
 pub mod Answers
 pub mod Downwards

@@ -1,7 +1,222 @@
--- Laws of privilege numbers. Assumes nothing.
+-- Laws of privilege numbers: each belongs to one type and one edit. They hold of every run of words, a table or not. Assumes nothing.
 use Prim.Native.Nat.{ℕ, zero, suc, _+_, _-_, _*_, _≤_, _<_}
-use native.Mathlib.Nat.{mul-le-mul}
+use mathlib.Core.Path.{_≡_, refl, sym, ap, _∙_}
+use mathlib.Core.Logic.{_≢_, _⊎_, inl, inr}
+use mathlib.Core.Bool.{Bool, true, false, cond}
+use mathlib.Core.List.{List}
+use native.Mathlib.Nat.{mul-le-mul, mul-le-mul-right}
 use native.Mathlib.Omega.{arith}
+use borrow.Author.Tests.{lt-ltb, le-ltb}
+use lib.Dec.{ltb}
+use Rattle.table.specs.Sum.{sumBelow}
+use Rattle.table.specs.Words.{types}
+use Rattle.table.specs.Rule.{ruleAt, kindIn, countIn, countOf, OfKind, IsText, IsChoice, IsStar}
+use Rattle.table.specs.Privilege.{privilegesOf, privilegesAt, firstPrivilege, privileges, Belongs, slotOf, replaceOf, Replaceable, Edit, text, insert, delete, replace, typeOf, Offers, privilegeOf}
+use Rattle.table.specs.declared.rule.Rule.{Rule}
+use Rattle.table.specs.declared.rule.Rule.the-variants.{Empty, Text, Sequence, Choice, Star}
+use Rattle.table.proofs.Lists.{le-or-lt}
+use Rattle.table.proofs.Sum.{sum-more, sum-part, Falls, falls-one, falls-some}
 
 pub pairs-few : (n : ℕ) → n < 65536 → n * (n - 1) < 4294967296
 pairs-few n h = let z : n * (n - 1) ≤ 65535 * 65535 = mul-le-mul {n₂ = 65535} {m₂ = 65535} (omega arith) (omega arith) in omega arith
+
+-- the first privileges run on from type to type
+pub first-start : (ws : List ℕ) → firstPrivilege ws 0 ≡ 0
+unfolding firstPrivilege sumBelow
+first-start ws = refl
+
+pub first-next : (ws : List ℕ) (x : ℕ) → firstPrivilege ws (x + 1) ≡ firstPrivilege ws x + privilegesAt ws x
+unfolding firstPrivilege
+first-next ws x = sum-more (privilegesAt ws) x
+
+-- each privilege below V belongs to exactly one type
+falls : {ws : List ℕ} {p x : ℕ} → Belongs ws p x → Falls (privilegesAt ws) p x
+unfolding firstPrivilege
+falls b = record { from = b .from; until = b .until }
+
+pub belongs-one : {ws : List ℕ} {p x y : ℕ} → Belongs ws p x → Belongs ws p y → x ≡ y
+belongs-one {ws} a b = falls-one (privilegesAt ws) (falls a) (falls b)
+
+pub belongs-some : (ws : List ℕ) (p : ℕ) → p < privileges ws → (x : ℕ) × Belongs ws p x
+unfolding privileges firstPrivilege
+belongs-some ws p h = let r = falls-some (privilegesAt ws) (types ws) p h in (r .0, record { type = r .1; from = r .2 .from; until = r .2 .until })
+
+pub belongs-below : {ws : List ℕ} {p x : ℕ} → Belongs ws p x → p < privileges ws
+unfolding privileges firstPrivilege
+belongs-below {ws} {p} {x} b = omega (arith, b .until, sum-part (privilegesAt ws) x (types ws) (b .type))
+
+-- a replacement's slot among those of a choice of n children
+slot-cases : (i j : ℕ) → i ≢ j → ((i < j) × (cond (ltb i j) (j - 1) j ≡ j - 1)) ⊎ ((j < i) × (cond (ltb i j) (j - 1) j ≡ j))
+slot-cases i j d = elim (le-or-lt j i) [
+  | inl h ↦ inr (omega arith, rw (le-ltb i j h))
+  | inr h ↦ inl (h, rw (lt-ltb i j h))
+]
+
+slot-small : (n i j : ℕ) → i < n → j < n → i ≢ j → cond (ltb i j) (j - 1) j < n - 1
+slot-small n i j hi hj d = elim (slot-cases i j d) [ inl h ↦ omega arith | inr h ↦ omega arith ]
+
+pub slot-below : (n i j : ℕ) → i < n → j < n → i ≢ j → slotOf n i j < n * (n - 1)
+slot-below n i j hi hj d =
+    omega (arith, slot-small n i j hi hj d, mul-le-mul-right {m = suc i} {n = n} (n - 1) hi)
+
+-- the row and the column of a number below n rows of k
+digits-one : (k i s j t : ℕ) → s < k → t < k → i * k + s ≡ j * k + t → (i ≡ j) × (s ≡ t)
+digits-one k i s j t hs ht e = go (le-or-lt i j) (le-or-lt j i)
+  where
+    go : (i ≤ j) ⊎ (j < i) → (j ≤ i) ⊎ (i < j) → (i ≡ j) × (s ≡ t)
+    go (inl g) (inl h) = let q : i ≡ j = omega arith in (q, omega (arith, ap (λ (z : ℕ). z * k) q))
+    go (inl g) (inr h) = absurd (omega (arith, mul-le-mul-right {m = suc i} {n = j} k h))
+    go (inr g) h = absurd (omega (arith, mul-le-mul-right {m = suc j} {n = i} k g))
+
+digits-some : (k n s : ℕ) → s < n * k → (i : ℕ) × (r : ℕ) × (i < n) × (r < k) × (i * k + r ≡ s)
+digits-some k zero s h = absurd (omega arith)
+digits-some k (suc n) s h = go (le-or-lt (n * k) s) (λ l. digits-some k n s l)
+  where
+    go : (n * k ≤ s) ⊎ (s < n * k) → (s < n * k → (i : ℕ) × (r : ℕ) × (i < n) × (r < k) × (i * k + r ≡ s))
+        → (i : ℕ) × (r : ℕ) × (i < suc n) × (r < k) × (i * k + r ≡ s)
+    go (inl l) again = (n, s - n * k, omega arith, omega arith, omega arith)
+    go (inr l) again = let d = again l in (d .0, d .1, omega arith, d .3, d .4)
+
+pub slot-one : (n i j k l : ℕ) → i < n → j < n → i ≢ j → k < n → l < n → k ≢ l → slotOf n i j ≡ slotOf n k l → (i ≡ k) × (j ≡ l)
+slot-one n i j k l hi hj d hk hl f e =
+    let q = digits-one (n - 1) i (cond (ltb i j) (j - 1) j) k (cond (ltb k l) (l - 1) l) (slot-small n i j hi hj d) (slot-small n k l hk hl f) e in
+    (q .0, go (slot-cases i j d) (slot-cases k l f) (q .0) (q .1))
+  where
+    go : ((i < j) × (cond (ltb i j) (j - 1) j ≡ j - 1)) ⊎ ((j < i) × (cond (ltb i j) (j - 1) j ≡ j))
+        → ((k < l) × (cond (ltb k l) (l - 1) l ≡ l - 1)) ⊎ ((l < k) × (cond (ltb k l) (l - 1) l ≡ l))
+        → i ≡ k → cond (ltb i j) (j - 1) j ≡ cond (ltb k l) (l - 1) l → j ≡ l
+    go (inl g) (inl h) a b = omega arith
+    go (inl g) (inr h) a b = omega arith
+    go (inr g) (inl h) a b = omega arith
+    go (inr g) (inr h) a b = omega arith
+
+pub slot-some : (n s : ℕ) → s < n * (n - 1) → (i : ℕ) × (j : ℕ) × (i < n) × (j < n) × (i ≢ j) × (slotOf n i j ≡ s)
+slot-some n s h = go (digits-some (n - 1) n s h)
+  where
+    at : (i r : ℕ) → i < n → r < n - 1 → i * (n - 1) + r ≡ s → (i ≤ r) ⊎ (r < i) → (i : ℕ) × (j : ℕ) × (i < n) × (j < n) × (i ≢ j) × (slotOf n i j ≡ s)
+    at i r hi hr e (inl l) = (i, r + 1, hi, omega arith, omega arith, rw (lt-ltb i (r + 1) (omega arith)) (omega arith))
+    at i r hi hr e (inr l) = (i, r, hi, omega arith, omega arith, rw (le-ltb i r (omega arith)) e)
+
+    go : (i : ℕ) × (r : ℕ) × (i < n) × (r < n - 1) × (i * (n - 1) + r ≡ s) → (i : ℕ) × (j : ℕ) × (i < n) × (j < n) × (i ≢ j) × (slotOf n i j ≡ s)
+    go (i, r, hi, hr, e) = at i r hi hr e (le-or-lt i r)
+
+-- how many privileges a type of each kind has
+text-has : (rule : Rule) → kindIn rule ≡ 1 → privilegesOf rule ≡ 1
+text-has Empty e = absurd (omega arith)
+text-has Text e = refl
+text-has (Sequence a n) e = absurd (omega arith)
+text-has (Choice a n) e = absurd (omega arith)
+text-has (Star a n) e = absurd (omega arith)
+
+choice-has : (rule : Rule) → kindIn rule ≡ 3 → privilegesOf rule ≡ countIn rule * (countIn rule - 1)
+choice-has Empty e = absurd (omega arith)
+choice-has Text e = absurd (omega arith)
+choice-has (Sequence a n) e = absurd (omega arith)
+choice-has (Choice a n) e = refl
+choice-has (Star a n) e = absurd (omega arith)
+
+star-has : (rule : Rule) → kindIn rule ≡ 4 → privilegesOf rule ≡ 2
+star-has Empty e = absurd (omega arith)
+star-has Text e = absurd (omega arith)
+star-has (Sequence a n) e = absurd (omega arith)
+star-has (Choice a n) e = absurd (omega arith)
+star-has (Star a n) e = refl
+
+-- the kind of type that has an edit
+abbrev kindFor : Edit → ℕ
+kindFor (text x) = 1
+kindFor (insert x) = 4
+kindFor (delete x) = 4
+kindFor (replace x i j) = 3
+
+module _ (ws : List ℕ) where
+  text-count : {x : ℕ} → IsText ws x → privilegesAt ws x ≡ 1
+  unfolding privilegesAt
+  text-count {x} h = text-has (ruleAt ws x) (h .kind-is)
+
+  choice-count : {x : ℕ} → IsChoice ws x → privilegesAt ws x ≡ countOf ws x * (countOf ws x - 1)
+  unfolding privilegesAt countOf
+  choice-count {x} h = choice-has (ruleAt ws x) (h .kind-is)
+
+  star-count : {x : ℕ} → IsStar ws x → privilegesAt ws x ≡ 2
+  unfolding privilegesAt
+  star-count {x} h = star-has (ruleAt ws x) (h .kind-is)
+
+  -- an edit's privilege belongs to its type, and so is below V
+  pub edit-belongs : (e : Edit) → Offers ws e → Belongs ws (privilegeOf ws e) (typeOf e)
+  unfolding replaceOf
+  edit-belongs (text x) h = record { type = h .type; from = omega arith; until = omega (arith, text-count h) }
+  edit-belongs (insert x) h = record { type = h .type; from = omega arith; until = omega (arith, star-count h) }
+  edit-belongs (delete x) h = record { type = h .type; from = omega arith; until = omega (arith, star-count h) }
+  edit-belongs (replace x i j) h = record {
+    type = h .choice .type;
+    from = omega arith;
+    until = omega (arith, choice-count (h .choice), slot-below (countOf ws x) i j (h .from) (h .to) (h .apart));
+  }
+
+  pub edit-below : (e : Edit) → Offers ws e → privilegeOf ws e < privileges ws
+  edit-below e h = belongs-below (edit-belongs e h)
+
+  -- each privilege below V is that of an edit at its type
+  edit-by : (p x : ℕ) → Belongs ws p x → (rule : Rule) → ruleAt ws x ≡ rule → (e : Edit) × Offers ws e × (typeOf e ≡ x) × (privilegeOf ws e ≡ p)
+  unfolding privilegesAt countOf replaceOf
+  edit-by p x b Empty q = let u = rw q at (b .until) in absurd (omega (arith, b .from))
+  edit-by p x b Text q = let u = rw q at (b .until) in (text x, record { type = b .type; kind-is = rw q }, refl, omega (arith, b .from))
+  edit-by p x b (Sequence a n) q = let u = rw q at (b .until) in absurd (omega (arith, b .from))
+  edit-by p x b (Choice a n) q =
+      let u : p < firstPrivilege ws x + n * (n - 1) = rw q at (b .until) in
+      let l = b .from in
+      let s = slot-some n (p - firstPrivilege ws x) (omega arith) in
+      let i = s .0 in
+      let j = s .1 in
+      (replace x i j, record { choice = record { type = b .type; kind-is = rw q }; from = rw q (s .2); to = rw q (s .3); apart = s .4 }, refl, rw q (omega (arith, s .5)))
+  edit-by p x b (Star a n) q =
+      let u : p < firstPrivilege ws x + 2 = rw q at (b .until) in
+      elim (le-or-lt p (firstPrivilege ws x)) [
+        | inl l ↦ (insert x, record { type = b .type; kind-is = rw q }, refl, omega (arith, b .from))
+        | inr l ↦ (delete x, record { type = b .type; kind-is = rw q }, refl, omega (arith, b .from))
+      ]
+
+  pub edit-of : {p x : ℕ} → Belongs ws p x → (e : Edit) × Offers ws e × (typeOf e ≡ x) × (privilegeOf ws e ≡ p)
+  edit-of {p} {x} b = edit-by p x b (ruleAt ws x) refl
+
+  pub edit-some : (p : ℕ) → p < privileges ws → (e : Edit) × Offers ws e × (privilegeOf ws e ≡ p)
+  edit-some p h = let r = edit-of (belongs-some ws p h .1) in (r .0, r .1, r .3)
+
+  -- edits that differ have different privileges
+  offers-kind : (e : Edit) → Offers ws e → kindIn (ruleAt ws (typeOf e)) ≡ kindFor e
+  offers-kind (text x) h = h .kind-is
+  offers-kind (insert x) h = h .kind-is
+  offers-kind (delete x) h = h .kind-is
+  offers-kind (replace x i j) h = h .choice .kind-is
+
+  edit-same : (e f : Edit) → Offers ws e → Offers ws f → kindFor e ≡ kindFor f → typeOf e ≡ typeOf f → privilegeOf ws e ≡ privilegeOf ws f → e ≡ f
+  unfolding replaceOf
+  edit-same (text x) (text y) g h k q r = ap text q
+  edit-same (text x) (insert y) g h k q r = absurd (omega arith)
+  edit-same (text x) (delete y) g h k q r = absurd (omega arith)
+  edit-same (text x) (replace y a b) g h k q r = absurd (omega arith)
+  edit-same (insert x) (text y) g h k q r = absurd (omega arith)
+  edit-same (insert x) (insert y) g h k q r = ap insert q
+  edit-same (insert x) (delete y) g h k q r = absurd (omega (arith, ap (firstPrivilege ws) q))
+  edit-same (insert x) (replace y a b) g h k q r = absurd (omega arith)
+  edit-same (delete x) (text y) g h k q r = absurd (omega arith)
+  edit-same (delete x) (insert y) g h k q r = absurd (omega (arith, ap (firstPrivilege ws) q))
+  edit-same (delete x) (delete y) g h k q r = ap delete q
+  edit-same (delete x) (replace y a b) g h k q r = absurd (omega arith)
+  edit-same (replace x i j) (text y) g h k q r = absurd (omega arith)
+  edit-same (replace x i j) (insert y) g h k q r = absurd (omega arith)
+  edit-same (replace x i j) (delete y) g h k q r = absurd (omega arith)
+  edit-same (replace x i j) (replace y a b) g h k q r =
+      let first = ap (firstPrivilege ws) q in
+      let n = ap (countOf ws) q in
+      let s : slotOf (countOf ws x) i j ≡ slotOf (countOf ws x) a b = omega (arith, ap (λ (z : ℕ). slotOf z a b) n) in
+      let d = slot-one (countOf ws x) i j a b (g .from) (g .to) (g .apart) (rw n (h .from)) (rw n (h .to)) (h .apart) s in
+      let from : i ≡ a = d .0 in
+      let to : j ≡ b = d .1 in
+      cc
+
+  pub edit-one : (e f : Edit) → Offers ws e → Offers ws f → privilegeOf ws e ≡ privilegeOf ws f → e ≡ f
+  edit-one e f g h r =
+      let q : typeOf e ≡ typeOf f = belongs-one (edit-belongs e g) (rw (← r) at (edit-belongs f h)) in
+      edit-same e f g h (sym (offers-kind e g) ∙ ap (λ (x : ℕ). kindIn (ruleAt ws x)) q ∙ offers-kind f h) q r

@@ -1,7 +1,8 @@
 use Rattle.table.proofs.Lists.{fill-more}
 -- The loop has written the types passed, from the greatest down. Assumes nothing.
 use borrow.Author.Needs.{needs}
-use Rattle.table.proofs.Downwards.{downwards, few-types}
+use Rattle.table.proofs.Downwards.{downwards}
+use Rattle.table.proofs.Facts.{facts}
 use native.Mathlib.Omega.{arith}
 use borrow.Author.Count.{below-none}
 use lib.ListN.{length, getD, length-set}
@@ -54,7 +55,7 @@ returns c =
     λ a.
     let at = c .before in
     let read = at .before .before .types .ensures .is in
-    let few = few-types a in
+    let few = facts a .few in
     let same : at .before .lesser .result ≡ at .before .before .types .result = omega arith in
     downwards _ (at .loop .order) (λ k l. rw (← read, ← same) (at .loop .inv .2 k (omega arith))) a
 

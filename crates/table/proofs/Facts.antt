@@ -1,0 +1,91 @@
+-- What the layers above rely on of an accepted table, one that `check_table` answers with number 0. Assumes nothing.
+use Prim.Native.Nat.{ℕ, zero, suc, _+_, _≤_, _<_}
+use mathlib.Core.Path.{_≡_, refl, sym, _∙_}
+use mathlib.Core.Logic.{_≢_, _⊎_, inl, inr}
+use mathlib.Core.List.{List}
+use native.Mathlib.Omega.{arith}
+use lib.ListN.{length}
+use Rattle.table.specs.Words.{types, kindAt, countAt, firstAt}
+use Rattle.table.specs.Rule.{ruleOf, ruleAt, kindIn, countIn, countOf, childrenAt, childAt, IsStar, Child}
+use Rattle.table.specs.Privilege.{privileges}
+use Rattle.table.specs.Check.{RightCount, Accepted}
+use Rattle.table.specs.declared.check.Check.the-variants.{Kind, Count, Bounds, Twice, Orphan, Total}
+use Rattle.table.proofs.Lists.{le-or-lt}
+use Rattle.table.proofs.Children.{Tiled, tiled, count-read, children-all}
+
+pub record Facts (ws : List ℕ) : Type 0 where
+  pub some : 1 ≤ types ws
+  pub few : types ws ≤ 256
+  -- a type has at most 16 children, all there, all different and all types; a star has exactly one
+  pub children-few : (x : ℕ) → x < types ws → countOf ws x ≤ 16
+  pub children-here : (x : ℕ) → x < types ws → length (childrenAt ws x) ≡ countOf ws x
+  pub child-inside : (x i : ℕ) → x < types ws → i < countOf ws x → childAt ws x i < types ws
+  pub child-once : (x i j : ℕ) → x < types ws → i < countOf ws x → j < countOf ws x → childAt ws x i ≡ childAt ws x j → i ≡ j
+  pub star-one : (x : ℕ) → IsStar ws x → countOf ws x ≡ 1
+  -- every type but 0 is somebody's child
+  pub somebodys : (x : ℕ) → x < types ws → x ≢ 0 → (y : ℕ) × Child ws y x
+  pub privileges-few : privileges ws ≤ 4096
+
+count-few : (kind count : ℕ) → kind ≤ 4 → RightCount kind count → count ≤ 16
+count-few zero n h r = omega (arith, r .empty refl)
+count-few (suc zero) n h r = omega (arith, r .text refl)
+count-few (suc (suc zero)) n h r = r .sequence refl .1
+count-few (suc (suc (suc zero))) n h r = r .choice refl .1
+count-few (suc (suc (suc (suc zero)))) n h r = omega (arith, r .star refl)
+count-few (suc (suc (suc (suc (suc k))))) n h r = absurd (omega arith)
+
+-- the kind of a rule is that of its record
+kind-right : (kind first count : ℕ) → kind ≤ 4 → kindIn (ruleOf kind first count) ≡ kind
+unfolding ruleOf
+kind-right zero a n h = refl
+kind-right (suc zero) a n h = refl
+kind-right (suc (suc zero)) a n h = refl
+kind-right (suc (suc (suc zero))) a n h = refl
+kind-right (suc (suc (suc (suc zero)))) a n h = refl
+kind-right (suc (suc (suc (suc (suc k))))) a n h = absurd (omega arith)
+
+module _ {ws : List ℕ} (a : Accepted ws) where
+  tiled-all : Tiled ws
+  tiled-all = tiled ws Total (omega arith) (λ c l. a .passes c)
+
+  kind-read : (x : ℕ) → x < types ws → kindIn (ruleAt ws x) ≡ kindAt ws x
+  unfolding ruleAt
+  kind-read x l = kind-right (kindAt ws x) (firstAt ws x) (countAt ws x) (a .passes Kind x l)
+
+  once : (x i j : ℕ) → x < types ws → i < countOf ws x → j < countOf ws x → childAt ws x i ≡ childAt ws x j → i ≡ j
+  once x i j l hi hj e = go (le-or-lt i j) (le-or-lt j i)
+    where
+      all : length (childrenAt ws x) ≡ countOf ws x
+      all = children-all tiled-all x l
+
+      go : (i ≤ j) ⊎ (j < i) → (j ≤ i) ⊎ (i < j) → i ≡ j
+      go (inl g) (inl h) = omega arith
+      go (inl g) (inr h) = absurd (a .passes Twice x l i j h (rw all hj) e)
+      go (inr g) h = absurd (a .passes Twice x l j i g (rw all hi) (sym e))
+
+  somebody : (x : ℕ) → x ≢ 0 → (x ≡ 0) ⊎ ((y : ℕ) × Child ws y x) → (y : ℕ) × Child ws y x
+  somebody x d (inl e) = absurd (d e)
+  somebody x d (inr c) = c
+
+  pub facts : Facts ws
+  facts = record {
+    some = tiled-all .laid .some;
+    few = tiled-all .laid .few;
+    children-few = λ x l. rw (count-read tiled-all x l) (count-few (kindAt ws x) (countAt ws x) (a .passes Kind x l) (a .passes Count x l));
+    children-here = λ x l. children-all tiled-all x l;
+    child-inside = λ x i l h. a .passes Bounds x l i (rw (children-all tiled-all x l) h) .0;
+    child-once = once;
+    star-one = λ x s. count-read tiled-all x (s .type) ∙ a .passes Count x (s .type) .star (sym (kind-read x (s .type)) ∙ s .kind-is);
+    somebodys = λ x l d. somebody x d (a .passes Orphan x l);
+    privileges-few = a .passes Total 0 (omega arith) .few;
+  }
+
+  -- the kind at position i of a type is its child
+  pub child-at : (x i : ℕ) → x < types ws → i < countOf ws x → Child ws x (childAt ws x i)
+  child-at x i l h = record {
+    parent = l;
+    inside = facts .child-inside x i l h;
+    at = i;
+    within = rw (children-all tiled-all x l) h;
+    is = refl;
+  }
