@@ -11,11 +11,12 @@ use lib.Dec.{ltb}
 use Rattle.table.specs.Sum.{sumBelow}
 use Rattle.table.specs.Words.{types}
 use Rattle.table.specs.Rule.{ruleAt, kindIn, countIn, countOf, OfKind, IsText, IsChoice, IsStar}
-use Rattle.table.specs.Privilege.{privilegesOf, privilegesAt, firstPrivilege, privileges, Belongs, slotOf, replaceOf, Replaceable, Edit, text, insert, delete, replace, typeOf, Offers, privilegeOf}
+use Rattle.table.specs.Privilege.{privilegesOf, privilegesAt, firstPrivilege, privileges, Belongs, slotOf, replaceOf, NumberedAs, Positions, replaceIn, Replaceable, Edit, text, insert, delete, replace, typeOf, Offers, privilegeOf}
+use Rattle.table.specs.declared.privilege.Numbering.{Numbering}
 use Rattle.table.specs.declared.rule.Rule.{Rule}
 use Rattle.table.specs.declared.rule.Rule.the-variants.{Empty, Text, Sequence, Choice, Star}
 use Rattle.table.proofs.Lists.{le-or-lt}
-use Rattle.table.proofs.Sum.{sum-more, sum-part, Falls, falls-one, falls-some}
+use Rattle.table.proofs.Sum.{sum-more, sum-mono, sum-part, Falls, falls-one, falls-some}
 
 pub pairs-few : (n : ℕ) → n < 65536 → n * (n - 1) < 4294967296
 pairs-few n h = let z : n * (n - 1) ≤ 65535 * 65535 = mul-le-mul {n₂ = 65535} {m₂ = 65535} (omega arith) (omega arith) in omega arith
@@ -28,6 +29,10 @@ first-start ws = refl
 pub first-next : (ws : List ℕ) (x : ℕ) → firstPrivilege ws (x + 1) ≡ firstPrivilege ws x + privilegesAt ws x
 unfolding firstPrivilege
 first-next ws x = sum-more (privilegesAt ws) x
+
+pub first-within : (ws : List ℕ) (x : ℕ) → x ≤ types ws → firstPrivilege ws x ≤ privileges ws
+unfolding privileges firstPrivilege
+first-within ws x h = sum-mono (privilegesAt ws) x (types ws) h
 
 -- each privilege below V belongs to exactly one type
 falls : {ws : List ℕ} {p x : ℕ} → Belongs ws p x → Falls (privilegesAt ws) p x
@@ -220,3 +225,15 @@ module _ (ws : List ℕ) where
   edit-one e f g h r =
       let q : typeOf e ≡ typeOf f = belongs-one (edit-belongs e g) (rw (← r) at (edit-belongs f h)) in
       edit-same e f g h (sym (offers-kind e g) ∙ ap (λ (x : ℕ). kindIn (ruleAt ws x)) q ∙ offers-kind f h) q r
+
+-- the numbering at a choice gives its replacements
+pub row-few : {n : Numbering} {i j : ℕ} → Positions n i j → i * (n .count - 1) ≤ 256
+row-few h = mul-le-mul {n₂ = 16} {m₂ = 16} (omega (arith, h .from, h .few)) (omega (arith, h .few))
+
+module _ {ws : List ℕ} {x : ℕ} {n : Numbering} (h : NumberedAs ws x n) where
+  pub positions : {i j : ℕ} → Replaceable ws x i j → Positions n i j
+  positions r = record { low = h .low; few = h .few; from = omega (arith, h .count, r .from); to = omega (arith, h .count, r .to) }
+
+  pub replace-in : (i j : ℕ) → replaceIn n i j ≡ replaceOf ws x i j
+  unfolding replaceOf
+  replace-in i j = rw (h .first, h .count)

@@ -9,6 +9,7 @@ use lib.Dec.{ltb}
 use Rattle.table.specs.Sum.{sumBelow}
 use Rattle.table.specs.Words.{types}
 use Rattle.table.specs.Rule.{ruleAt, countOf, IsText, IsChoice, IsStar}
+use Rattle.table.specs.declared.privilege.Numbering.{Numbering}
 use Rattle.table.specs.declared.rule.Rule.{Rule}
 use Rattle.table.specs.declared.rule.Rule.the-variants.{Empty, Text, Sequence, Choice, Star}
 
@@ -54,6 +55,23 @@ deleteOf ws x = firstPrivilege ws x + 1
 
 unfoldable pub replaceOf : List ℕ → ℕ → ℕ → ℕ → ℕ
 replaceOf ws x i j = firstPrivilege ws x + slotOf (countOf ws x) i j
+
+-- how the replacements at a choice are numbered: from its first privilege, by its number of children
+pub record NumberedAs (ws : List ℕ) (x : ℕ) (n : Numbering) : Type 0 where
+  pub first : n .first ≡ firstPrivilege ws x
+  pub count : n .count ≡ countOf ws x
+  pub low : n .first ≤ 4096
+  pub few : n .count ≤ 16
+
+-- i and j are positions of the choice
+pub record Positions (n : Numbering) (i j : ℕ) : Type 0 where
+  pub low : n .first ≤ 4096
+  pub few : n .count ≤ 16
+  pub from : i < n .count
+  pub to : j < n .count
+
+abbrev pub replaceIn : Numbering → ℕ → ℕ → ℕ
+replaceIn n i j = n .first + slotOf (n .count) i j
 
 -- there is a privilege to replace the child at i by the kind at j
 pub record Replaceable (ws : List ℕ) (x i j : ℕ) : Type 0 where

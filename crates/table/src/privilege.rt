@@ -1,10 +1,12 @@
-// How many privileges a table has. Contracts cite specs/Privilege.
+// How many privileges a table has, and the number of each. Contracts cite specs/Privilege.
 ghost use mathlib.Core.Path.{_≡_};
 ghost use Prim.Native.Nat.{_<_};
-ghost use Rattle.table.specs.Words.{Within};
+ghost use Rattle.table.specs.Words.{Within, types};
 ghost use Rattle.table.specs.Rule.{countIn};
-ghost use Rattle.table.specs.Privilege.{privilegesOf, privilegesAt, privileges};
+ghost use Rattle.table.specs.Privilege.{privilegesOf, privilegesAt, firstPrivilege, privileges, NumberedAs, Positions, replaceIn};
+ghost use Rattle.table.specs.Check.{Accepted};
 use super::rule::Rule;
+use super::rule::count_in;
 use super::rule::rule_at;
 use super::words::types;
 
@@ -40,4 +42,29 @@ pub fn privileges(words: &[u16]) -> usize
         x += 1;
     }
     sum
+}
+
+// How the replacements at a choice are numbered.
+pub struct Numbering {
+    pub first: usize,
+    pub count: usize,
+}
+
+// The numbering at type x of a table, whose first privilege is given.
+pub fn numbers_at(words: &[u16], x: usize, first: usize) -> Numbering
+    ensures { λ r. ⌜ (Accepted (now (words .entry)) → x < types (now (words .entry)) → first ≡ firstPrivilege (now (words .entry)) x → NumberedAs (now (words .entry)) x r) ⌝ }
+{
+    Numbering {
+        first: first,
+        count: count_in(rule_at(words, x)),
+    }
+}
+
+// The privilege to replace the child at i by the kind at j.
+pub fn replacement(n: Numbering, i: usize, j: usize) -> usize
+    requires { ⌜ Positions n i j ⌝ }
+    ensures { λ r. ⌜ r ≡ replaceIn n i j ⌝ }
+{
+    let row = n.first + i * (n.count - 1);
+    if i < j { row + (j - 1) } else { row + j }
 }
