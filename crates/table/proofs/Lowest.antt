@@ -1,6 +1,7 @@
 -- What a search over places in their order has shown, and what a flag tells. Assumes nothing.
 use Prim.Native.Nat.{ℕ, _+_, _≤_, _<_, zero-le}
 use mathlib.Core.Path.{_≡_, refl}
+use mathlib.Core.Logic.{_≢_}
 use mathlib.Core.Bool.{Bool, true, false, not}
 use native.Mathlib.Numerals.{add-one-le}
 use native.Mathlib.Omega.{arith}
@@ -57,3 +58,10 @@ tells-eq-as Q a b f g = tells-as f g (eqb a b) (tells-eq a b)
 
 pub tells-le-as : (Q : Type 0) (a b : ℕ) → (a ≤ b → Q) → (Q → a ≤ b) → Tells Q (leb a b)
 tells-le-as Q a b f g = tells-as f g (leb a b) (tells-le a b)
+
+pub tells-ne-as : (Q : Type 0) (a b : ℕ) → (a ≢ b → Q) → (Q → a ≢ b) → Tells Q (not (eqb a b))
+tells-ne-as Q a b f g = go (eqb a b) (tells-eq a b)
+  where
+    go : (r : Bool) → Tells (a ≡ b) r → Tells Q (not r)
+    go true e = λ q. g q e
+    go false d = f d

@@ -11,7 +11,7 @@ use lib.Dec.{ltb}
 use Rattle.table.specs.Sum.{sumBelow}
 use Rattle.table.specs.Words.{types}
 use Rattle.table.specs.Rule.{ruleAt, kindIn, countIn, countOf, OfKind, IsText, IsChoice, IsStar}
-use Rattle.table.specs.Privilege.{privilegesOf, privilegesAt, firstPrivilege, privileges, Belongs, slotOf, replaceOf, NumberedAs, Positions, replaceIn, Replaceable, Edit, text, insert, delete, replace, typeOf, Offers, privilegeOf}
+use Rattle.table.specs.Privilege.{privilegesOf, privilegesAt, firstPrivilege, privileges, Belongs, slotOf, replaceOf, NumberedAs, Positions, replaceIn, ReplaceableIn, Replaceable, Edit, text, insert, delete, replace, typeOf, Offers, privilegeOf}
 use Rattle.table.specs.declared.privilege.Numbering.{Numbering}
 use Rattle.table.specs.declared.rule.Rule.{Rule}
 use Rattle.table.specs.declared.rule.Rule.the-variants.{Empty, Text, Sequence, Choice, Star}
@@ -233,6 +233,12 @@ row-few h = mul-le-mul {n₂ = 16} {m₂ = 16} (omega (arith, h .from, h .few)) 
 module _ {ws : List ℕ} {x : ℕ} {n : Numbering} (h : NumberedAs ws x n) where
   pub positions : {i j : ℕ} → Replaceable ws x i j → Positions n i j
   positions r = record { low = h .low; few = h .few; from = omega (arith, h .count, r .from); to = omega (arith, h .count, r .to) }
+
+  pub replaceable-in : {i j : ℕ} → Replaceable ws x i j → ReplaceableIn n i j
+  replaceable-in r = record { from = omega (arith, h .count, r .from); to = omega (arith, h .count, r .to); apart = r .apart }
+
+  pub in-replaceable : {i j : ℕ} → IsChoice ws x → ReplaceableIn n i j → Replaceable ws x i j
+  in-replaceable c r = record { choice = c; from = omega (arith, h .count, r .from); to = omega (arith, h .count, r .to); apart = r .apart }
 
   pub replace-in : (i j : ℕ) → replaceIn n i j ≡ replaceOf ws x i j
   unfolding replaceOf

@@ -73,6 +73,12 @@ pub record Positions (n : Numbering) (i j : ℕ) : Type 0 where
 abbrev pub replaceIn : Numbering → ℕ → ℕ → ℕ
 replaceIn n i j = n .first + slotOf (n .count) i j
 
+-- by the numbering, there is a privilege to replace the child at i by the kind at j
+pub record ReplaceableIn (n : Numbering) (i j : ℕ) : Type 0 where
+  pub from : i < n .count
+  pub to : j < n .count
+  pub apart : i ≢ j
+
 -- there is a privilege to replace the child at i by the kind at j
 pub record Replaceable (ws : List ℕ) (x i j : ℕ) : Type 0 where
   pub choice : IsChoice ws x

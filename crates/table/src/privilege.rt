@@ -3,8 +3,9 @@ ghost use mathlib.Core.Path.{_≡_};
 ghost use Prim.Native.Nat.{_<_};
 ghost use Rattle.table.specs.Words.{Within, types};
 ghost use Rattle.table.specs.Rule.{countIn};
-ghost use Rattle.table.specs.Privilege.{privilegesOf, privilegesAt, firstPrivilege, privileges, NumberedAs, Positions, replaceIn};
+ghost use Rattle.table.specs.Privilege.{privilegesOf, privilegesAt, firstPrivilege, privileges, NumberedAs, Positions, replaceIn, ReplaceableIn};
 ghost use Rattle.table.specs.Check.{Accepted};
+ghost use Rattle.table.specs.Lowest.{Tells};
 use super::rule::Rule;
 use super::rule::count_in;
 use super::rule::rule_at;
@@ -58,6 +59,20 @@ pub fn numbers_at(words: &[u16], x: usize, first: usize) -> Numbering
         first: first,
         count: count_in(rule_at(words, x)),
     }
+}
+
+// Is there a privilege to replace the child at i by the kind at j?
+pub fn is_replaceable(n: Numbering, i: usize, j: usize) -> bool
+    ensures { λ r. ⌜ Tells (ReplaceableIn n i j) r ⌝ }
+{
+    let count = n.count;
+    if count <= i {
+        return false;
+    }
+    if count <= j {
+        return false;
+    }
+    i != j
 }
 
 // The privilege to replace the child at i by the kind at j.

@@ -1,0 +1,47 @@
+-- Below (document 01, "The three conditions"): a type X is below Y if X is Y or can be reached from Y by going from types to their children;
+-- a privilege is below Y if its type is. Assumes nothing.
+use Prim.Native.Nat.{ℕ, _≤_, _<_}
+use mathlib.Core.List.{List}
+use lib.ListN.{getD}
+use Rattle.table.specs.Words.{types}
+use Rattle.table.specs.Rule.{Child}
+use Rattle.table.specs.Privilege.{Belongs}
+use Rattle.table.specs.declared.Found.{Found}
+use Rattle.table.specs.declared.Found.the-variants.{At, Nothing}
+use Rattle.verdict.specs.Marks.{Forbidden}
+
+-- x is below y
+pub data Below (ws : List ℕ) : ℕ → ℕ → Type 0 where
+  here : {x : ℕ} → Below ws x x
+  down : {x y : ℕ} (z : ℕ) → Child ws y z → Below ws x z → Below ws x y
+
+-- privilege p is below y
+pub record PrivilegeBelow (ws : List ℕ) (p y : ℕ) : Type 0 where
+  pub type : ℕ
+  pub belongs : Belongs ws p type
+  pub below : Below ws type y
+
+-- privilege p is below y and forbidden
+pub record ForbiddenBelow (ws marks : List ℕ) (y p : ℕ) : Type 0 where
+  pub below : PrivilegeBelow ws p y
+  pub forbidden : Forbidden marks p
+
+-- privilege p is y's own and forbidden
+pub record ForbiddenOwn (ws marks : List ℕ) (y p : ℕ) : Type 0 where
+  pub belongs : Belongs ws p y
+  pub forbidden : Forbidden marks p
+
+-- r is the lowest number that has P, or 65,535 where none has
+pub record Low (P : ℕ → Type 0) (r : ℕ) : Type 0 where
+  pub top : r ≤ 65535
+  pub here : r < 65535 → P r
+  pub least : (q : ℕ) → P q → r ≤ q
+
+-- a number for each type: the lowest forbidden privilege below it
+abbrev pub Lows : List ℕ → List ℕ → List ℕ → Type 0
+Lows ws marks low = (x : ℕ) → x < types ws → Low (ForbiddenBelow ws marks x) (getD low x 0)
+
+-- what is forbidden below a type: the lowest privilege, or nothing
+abbrev pub WorstBelow : List ℕ → List ℕ → ℕ → Found → Type 0
+WorstBelow ws marks y (At p) = ForbiddenBelow ws marks y p × ((q : ℕ) → ForbiddenBelow ws marks y q → p ≤ q)
+WorstBelow ws marks y Nothing = (q : ℕ) → ¬ ForbiddenBelow ws marks y q

@@ -1,0 +1,8 @@
+-- What the contracts of src/ cite, a file for each notion.
+pub mod Marks
+pub mod Below
+pub mod Reached
+pub mod Conditions
+pub mod Forces
+pub mod Breaches
+pub mod Answers

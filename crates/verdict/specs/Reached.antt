@@ -1,0 +1,38 @@
+-- Reached (document 01, "The three conditions"): at a choice, j is reached from i if one or more allowed replacements lead from i to j. What
+-- is allowed is any set of privileges, so that a policy's marks, a completion and a pair of maps can all be asked. Assumes nothing.
+use Prim.Native.Nat.{ℕ, _+_, _*_, _<_}
+use mathlib.Core.Path.{_≡_}
+use mathlib.Core.Bool.{Bool, true}
+use mathlib.Core.List.{List}
+use lib.Dec.{eqb}
+use lib.ListN.{length, getD}
+use Rattle.table.specs.Lowest.{Tells}
+use Rattle.table.specs.Privilege.{replaceOf, Replaceable}
+
+-- one or more steps of R lead from i to j
+pub data Plus (R : ℕ → ℕ → Type 0) : ℕ → ℕ → Type 0 where
+  last : {i j : ℕ} → R i j → Plus R i j
+  next : {i j : ℕ} (k : ℕ) → R i k → Plus R k j → Plus R i j
+
+-- at choice x the child at i may be replaced by the kind at j
+pub record Step (ws : List ℕ) (S : ℕ → Type 0) (x i j : ℕ) : Type 0 where
+  pub can : Replaceable ws x i j
+  pub allowed : S (replaceOf ws x i j)
+
+abbrev pub Reached : List ℕ → (ℕ → Type 0) → ℕ → ℕ → ℕ → Type 0
+Reached ws S x i j = Plus (Step ws S x) i j
+
+-- a square of bytes holds a relation on positions: 1 at place 16 i + j where it leads from i to j
+abbrev pub marked : List ℕ → ℕ → ℕ → Bool
+marked square i j = eqb (getD square (16 * i + j) 0) 1
+
+-- the steps that a square marks between the first n positions
+pub record Marked (n : ℕ) (square : List ℕ) (i j : ℕ) : Type 0 where
+  pub from : i < n
+  pub to : j < n
+  pub is : marked square i j ≡ true
+
+-- the square tells the relation R between the first n positions
+pub record Square (n : ℕ) (R : ℕ → ℕ → Type 0) (square : List ℕ) : Type 0 where
+  pub size : length square ≡ 256
+  pub tells : (i j : ℕ) → i < n → j < n → Tells (R i j) (marked square i j)

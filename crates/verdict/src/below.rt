@@ -1,0 +1,92 @@
+// What is forbidden below each type, in one pass along the order in which every type comes after its children.
+// Contracts cite specs/Below.
+ghost use mathlib.Core.Path.{_≡_};
+ghost use mathlib.Core.Logic.{_⊎_};
+ghost use Prim.Native.Nat.{ℕ, _≤_, _<_};
+ghost use lib.ListN.{length, getD};
+ghost use Rattle.table.specs.Words.{types};
+ghost use Rattle.verdict.specs.Marks.{Forbidden, Policy};
+ghost use Rattle.verdict.specs.Below.{Low, ForbiddenOwn, ForbiddenBelow, Lows, WorstBelow, Lesser, Range};
+use super::marks::mark_at;
+use table::Found;
+use table::order::bottom_up;
+use table::privilege::privileges_at;
+use table::rule::children;
+use table::words::types;
+use table::words::word_at;
+
+// The lowest forbidden privilege from one number up to another, or 65,535.
+fn forbidden_from(marks: &[u8], from: usize, until: usize) -> u16
+    requires { ⌜ until ≤ 4096 ⌝ }
+    ensures { λ r. ⌜ Low (Range (now (marks .entry)) from until) r ⌝ }
+{
+    let mut p = from;
+    while p < until {
+        if mark_at(marks, p) == 2 {
+            return p as u16;
+        }
+        p += 1;
+    }
+    65535
+}
+
+// For each type the lowest forbidden privilege of its own, or 65,535.
+fn own_lows(words: &[u16], marks: &[u8]) -> [u16; 256]
+    requires { ⌜ Policy (now words) (now marks) ⌝ }
+    ensures { λ r. ⌜ ((x : ℕ) → x < types (now (words .entry)) → Low (ForbiddenOwn (now (words .entry)) (now (marks .entry)) x) (getD r x 0)) ⌝ }
+{
+    let e = types(words);
+    let mut low = [65535u16; 256];
+    let mut first = 0;
+    let mut x = 0;
+    while x < e {
+        let next = first + privileges_at(words, x);
+        low[x] = forbidden_from(marks, first, next);
+        first = next;
+        x += 1;
+    }
+    low
+}
+
+// The least of a number and those of the children.
+fn least_of(kids: &[u16], low: &[u16; 256], own: u16) -> u16
+    requires { ⌜ ((i : ℕ) → i < length (now kids) → getD (now kids) i 0 < 256) ⌝ }
+    ensures { λ r. ⌜ Lesser (now (kids .entry)) (now (low .entry)) own r ⌝ }
+{
+    let mut least = own;
+    let mut i = 0;
+    while i < kids.len() {
+        let child = low[word_at(kids, i)];
+        if child < least {
+            least = child;
+        }
+        i += 1;
+    }
+    least
+}
+
+// For each type the lowest forbidden privilege below it, or 65,535.
+pub fn forbidden_lows(words: &[u16], marks: &[u8]) -> [u16; 256]
+    requires { ⌜ Policy (now words) (now marks) ⌝ }
+    ensures { λ r. ⌜ Lows (now (words .entry)) (now (marks .entry)) r ⌝ }
+{
+    let order = bottom_up(words);
+    let e = types(words);
+    let mut low = own_lows(words, marks);
+    let mut k = 0;
+    while k < e {
+        let x = order[k] as usize;
+        let least = least_of(children(words, x), &low, low[x]);
+        low[x] = least;
+        k += 1;
+    }
+    low
+}
+
+// What is forbidden below type y: the lowest privilege, or nothing.
+pub fn forbidden_below(low: u16) -> Found {
+    if low == 65535 {
+        return Found::Nothing;
+    }
+    Found::At(low as usize)
+}

@@ -1,0 +1,69 @@
+// Checking a run of marks, and a table with its marks. Contracts cite specs/Marks.
+ghost use mathlib.Core.Path.{_≡_};
+ghost use Prim.Native.Nat.{_<_};
+ghost use lib.ListN.{length, getD};
+ghost use Rattle.table.specs.Lowest.{Lowest};
+ghost use Rattle.verdict.specs.Marks.{Legal, MarksAnswer, PolicyAnswer};
+use table::Checked;
+use table::Found;
+use table::check_table;
+
+// The mark of privilege p; past the end stands 0.
+pub fn mark_at(marks: &[u8], p: usize) -> u8
+    ensures { λ r. ⌜ r ≡ getD (now (marks .entry)) p 0 ⌝ }
+{
+    if p < marks.len() { marks[p] } else { 0 }
+}
+
+// The lowest privilege whose mark is above 2.
+fn lowest_above(marks: &[u8]) -> Found
+    ensures { λ r. ⌜ Lowest (Legal (now (marks .entry))) (length (now (marks .entry))) r ⌝ }
+{
+    let mut p = 0;
+    while p < marks.len() {
+        if 2 < marks[p] {
+            return Found::At(p);
+        }
+        p += 1;
+    }
+    Found::Nothing
+}
+
+// Checks that there are v marks, each 0, 1 or 2: the number first for their length, the next for a mark.
+pub fn check_marks(marks: &[u8], v: usize, first: u8) -> Checked
+    requires { ⌜ first < 255 ⌝ }
+    ensures { λ r. ⌜ MarksAnswer first v (now (marks .entry)) (r .number) (r .place) ⌝ }
+{
+    if marks.len() != v {
+        return Checked {
+            number: first,
+            place: 0,
+        };
+    }
+    let found = lowest_above(marks);
+    if let Found::At(place) = found {
+        return Checked {
+            number: first + 1,
+            place: place,
+        };
+    }
+    Checked {
+        number: 0,
+        place: 0,
+    }
+}
+
+// Checks a table, and then marks for it: 0 and V, or the first of 1 to 11 with its place.
+pub fn check_policy(words: &[u16], marks: &[u8]) -> Checked
+    ensures { λ r. ⌜ PolicyAnswer (now (words .entry)) (now (marks .entry)) (r .number) (r .place) ⌝ }
+{
+    let table = check_table(words);
+    if table.number != 0 {
+        return table;
+    }
+    let fit = check_marks(marks, table.place, 10);
+    if fit.number != 0 {
+        return fit;
+    }
+    table
+}
