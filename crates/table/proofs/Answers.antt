@@ -55,7 +55,7 @@ earlier-more ws n check e h g c l = go (eq-or-lt-of-le l)
 fails-once : {ws : List ℕ} {check : Check} {place : ℕ} → Refused ws check place → ¬ Passes ws check
 fails-once {place = place} r p = r .lowest .fails (p place (r .lowest .within))
 
-lowest-one : {Good : ℕ → Type 0} {n j k : ℕ} → LowestAt Good n j → LowestAt Good n k → j ≡ k
+pub lowest-one : {Good : ℕ → Type 0} {n j k : ℕ} → LowestAt Good n j → LowestAt Good n k → j ≡ k
 lowest-one {Good} {n} {j} {k} a b = go (le-or-lt j k) (le-or-lt k j)
   where
     go : (j ≤ k) ⊎ (k < j) → (k ≤ j) ⊎ (j < k) → j ≡ k

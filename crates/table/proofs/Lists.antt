@@ -39,10 +39,10 @@ pub past-end : (ws : List ℕ) (i : ℕ) → length ws ≤ i → Widened (getD w
 past-end ws i h = record { is = sym (List·getD-eq-default ws 0 h); small = omega arith }
 
 -- a list that is written from the front: one more place holds what it should
-pub fill-more : (l : List ℕ) (f : ℕ → ℕ) (k : ℕ) → k < length l → ((j : ℕ) → j < k → getD l j 0 ≡ f j)
-    → (j : ℕ) → j < k + 1 → getD (set l k (f k)) j 0 ≡ f j
-fill-more l f k h g j m = go (eq-or-lt-of-le m)
+pub fill-more : (P : ℕ → ℕ → Type 0) (l : List ℕ) (k v : ℕ) → k < length l → ((j : ℕ) → j < k → P j (getD l j 0)) → P k v
+    → (j : ℕ) → j < k + 1 → P j (getD (set l k v) j 0)
+fill-more P l k v h g new j m = go (eq-or-lt-of-le m)
   where
-    go : (suc j ≡ k + 1) ⊎ (suc j < k + 1) → getD (set l k (f k)) j 0 ≡ f j
-    go (inl e) = let q : j ≡ k = omega arith in rw q (getD-set-same l k (f k) 0 h)
-    go (inr n) = getD-set-other l k j (f k) 0 (omega arith) ∙ g j (omega arith)
+    go : (suc j ≡ k + 1) ⊎ (suc j < k + 1) → P j (getD (set l k v) j 0)
+    go (inl e) = let q : j ≡ k = omega arith in rw (q, getD-set-same l k v 0 h) new
+    go (inr n) = rw (getD-set-other l k j v 0 (omega arith)) (g j (omega arith))

@@ -11,7 +11,7 @@ use lib.Dec.{ltb}
 use Rattle.table.specs.Sum.{sumBelow}
 use Rattle.table.specs.Words.{types}
 use Rattle.table.specs.Rule.{ruleAt, kindIn, countIn, countOf, OfKind, IsText, IsChoice, IsStar}
-use Rattle.table.specs.Privilege.{privilegesOf, privilegesAt, firstPrivilege, privileges, Belongs, slotOf, replaceOf, NumberedAs, Positions, replaceIn, ReplaceableIn, Replaceable, Edit, text, insert, delete, replace, typeOf, Offers, privilegeOf}
+use Rattle.table.specs.Privilege.{privilegesOf, privilegesAt, firstPrivilege, privileges, Belongs, slotOf, insertOf, deleteOf, replaceOf, NumberedAs, Positions, insertIn, deleteIn, replaceIn, ReplaceableIn, Replaceable, Edit, text, insert, delete, replace, typeOf, Offers, privilegeOf}
 use Rattle.table.specs.declared.privilege.Numbering.{Numbering}
 use Rattle.table.specs.declared.rule.Rule.{Rule}
 use Rattle.table.specs.declared.rule.Rule.the-variants.{Empty, Text, Sequence, Choice, Star}
@@ -239,6 +239,12 @@ module _ {ws : List ℕ} {x : ℕ} {n : Numbering} (h : NumberedAs ws x n) where
 
   pub in-replaceable : {i j : ℕ} → IsChoice ws x → ReplaceableIn n i j → Replaceable ws x i j
   in-replaceable c r = record { choice = c; from = omega (arith, h .count, r .from); to = omega (arith, h .count, r .to); apart = r .apart }
+
+  pub insert-in : insertIn n ≡ insertOf ws x
+  insert-in = h .first
+
+  pub delete-in : deleteIn n ≡ deleteOf ws x
+  delete-in = ap (λ (p : ℕ). p + 1) (h .first)
 
   pub replace-in : (i j : ℕ) → replaceIn n i j ≡ replaceOf ws x i j
   unfolding replaceOf

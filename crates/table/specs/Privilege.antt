@@ -56,7 +56,7 @@ deleteOf ws x = firstPrivilege ws x + 1
 unfoldable pub replaceOf : List ℕ → ℕ → ℕ → ℕ → ℕ
 replaceOf ws x i j = firstPrivilege ws x + slotOf (countOf ws x) i j
 
--- how the replacements at a choice are numbered: from its first privilege, by its number of children
+-- how the edits at a type are numbered: from its first privilege, by its number of children
 pub record NumberedAs (ws : List ℕ) (x : ℕ) (n : Numbering) : Type 0 where
   pub first : n .first ≡ firstPrivilege ws x
   pub count : n .count ≡ countOf ws x
@@ -72,6 +72,12 @@ pub record Positions (n : Numbering) (i j : ℕ) : Type 0 where
 
 abbrev pub replaceIn : Numbering → ℕ → ℕ → ℕ
 replaceIn n i j = n .first + slotOf (n .count) i j
+
+abbrev pub insertIn : Numbering → ℕ
+insertIn n = n .first
+
+abbrev pub deleteIn : Numbering → ℕ
+deleteIn n = n .first + 1
 
 -- by the numbering, there is a privilege to replace the child at i by the kind at j
 pub record ReplaceableIn (n : Numbering) (i j : ℕ) : Type 0 where

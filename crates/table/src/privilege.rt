@@ -1,9 +1,9 @@
 // How many privileges a table has, and the number of each. Contracts cite specs/Privilege.
 ghost use mathlib.Core.Path.{_≡_};
-ghost use Prim.Native.Nat.{_<_};
+ghost use Prim.Native.Nat.{_≤_, _<_};
 ghost use Rattle.table.specs.Words.{Within, types};
 ghost use Rattle.table.specs.Rule.{countIn};
-ghost use Rattle.table.specs.Privilege.{privilegesOf, privilegesAt, firstPrivilege, privileges, NumberedAs, Positions, replaceIn, ReplaceableIn};
+ghost use Rattle.table.specs.Privilege.{privilegesOf, privilegesAt, firstPrivilege, privileges, NumberedAs, Positions, insertIn, deleteIn, replaceIn, ReplaceableIn};
 ghost use Rattle.table.specs.Check.{Accepted};
 ghost use Rattle.table.specs.Lowest.{Tells};
 use super::rule::Rule;
@@ -45,7 +45,7 @@ pub fn privileges(words: &[u16]) -> usize
     sum
 }
 
-// How the replacements at a choice are numbered.
+// How the edits at a type are numbered.
 pub struct Numbering {
     pub first: usize,
     pub count: usize,
@@ -59,6 +59,21 @@ pub fn numbers_at(words: &[u16], x: usize, first: usize) -> Numbering
         first: first,
         count: count_in(rule_at(words, x)),
     }
+}
+
+// The privilege to insert at a star.
+pub fn insertion(n: Numbering) -> usize
+    ensures { λ r. ⌜ r ≡ insertIn n ⌝ }
+{
+    n.first
+}
+
+// The privilege to delete at a star.
+pub fn deletion(n: Numbering) -> usize
+    requires { ⌜ n .first ≤ 4096 ⌝ }
+    ensures { λ r. ⌜ r ≡ deleteIn n ⌝ }
+{
+    n.first + 1
 }
 
 // Is there a privilege to replace the child at i by the kind at j?

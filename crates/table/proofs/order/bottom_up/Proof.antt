@@ -48,7 +48,7 @@ loop-again : tie.Need-loop-again Inv-loop μ-loop
 loop-again c =
     let at = c .before .loop in
     let e = c .before .before .lesser .result in
-    (search needs, length-set (at .order) (at .k) _ ∙ at .inv .1, fill-more (at .order) (λ j. e - 1 - j) (at .k) (omega arith) (at .inv .2))
+    (search needs, length-set (at .order) (at .k) _ ∙ at .inv .1, fill-more (λ j r. r ≡ e - 1 - j) (at .order) (at .k) _ (omega arith) (at .inv .2) refl)
 
 returns : tie.Need-returns Inv-loop μ-loop
 returns c =
