@@ -13,4 +13,5 @@ pub mod Plus
 pub mod Closure
 pub mod Answers
 pub mod TableTests
+pub mod Samples
 pub mod Downwards

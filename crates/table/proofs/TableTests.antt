@@ -9,7 +9,8 @@ use Rattle.table.specs.Words.{types, entries, kindAt, countAt, firstAt, 
 use Rattle.table.specs.Seen.{Stands}
 use Rattle.table.specs.Rule.{ruleAt, kindIn, countOf, childrenAt, childAt, OfKind, Child}
 use Rattle.table.specs.Privilege.{privilegesAt, firstPrivilege, privileges, Belongs, Replaceable}
-use Rattle.table.specs.Check.{Headed, Laid, RightCount, Follows, Bounded, Differ, Somebodys, Counted, Holds, placesOf, numberOf, Passes, TableAnswer, refused, accepted}
+use Rattle.table.specs.Check.{Headed, Laid, RightCount, Follows, Bounded, Differ, Somebodys, Counted, Holds}
+use Rattle.table.specs.Check.{placesOf, numberOf, Passes, TableAnswer, refused, accepted}
 use Rattle.table.specs.declared.Found.{Found}
 use Rattle.table.specs.declared.Found.the-variants.{At, Nothing}
 use Rattle.table.specs.declared.Checked.{Checked}
