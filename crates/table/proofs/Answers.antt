@@ -29,6 +29,7 @@ check-of Twice = refl
 check-of Orphan = refl
 check-of Total = refl
 
+-- and that check has the number
 pub check-number : (k : ℕ) → k < 9 → numberOf (checkOf (k + 1)) ≡ k + 1
 check-number = every 9 (λ k. isEqual (numberOf (checkOf (k + 1))) (k + 1)) .out tt
 

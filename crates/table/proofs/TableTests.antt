@@ -7,7 +7,7 @@ use lib.ListN.{length, getD}
 use Rattle.table.specs.Lowest.{Lowest}
 use Rattle.table.specs.Words.{types, entries, kindAt, countAt, firstAt, running}
 use Rattle.table.specs.Seen.{Stands}
-use Rattle.table.specs.Rule.{ruleAt, kindIn, countOf, childrenAt, childAt, OfKind, Child}
+use Rattle.table.specs.Rule.{ruleAt, kindIn, countOf, childrenAt, OfKind, Child}
 use Rattle.table.specs.Privilege.{privilegesAt, firstPrivilege, privileges, Belongs, Replaceable}
 use Rattle.table.specs.Check.{Headed, Laid, RightCount, Follows, Bounded, Differ, Somebodys, Counted, Holds}
 use Rattle.table.specs.Check.{placesOf, numberOf, Passes, TableAnswer, refused, accepted}
