@@ -12,9 +12,10 @@ use Rattle.table.specs.Check.{Holds, numberOf, Passes, Earlier, Refused,
 use Rattle.table.specs.declared.check.Check.{Check}
 use Rattle.table.specs.declared.check.Check.the-variants.{Format, Layout, Kind, Count, Stretch, Bounds, Twice, Orphan, Total}
 use Rattle.table.proofs.Lists.{le-or-lt}
+use Rattle.table.proofs.Test.{isEqual, every}
 
 -- the check of a number from 1 to 9
-abbrev checkOf : ℕ → Check
+abbrev pub checkOf : ℕ → Check
 checkOf n = getD (Total ∷ Format ∷ Layout ∷ Kind ∷ Count ∷ Stretch ∷ Bounds ∷ Twice ∷ Orphan ∷ []) n Total
 
 check-of : (c : Check) → checkOf (numberOf c) ≡ c
@@ -27,6 +28,10 @@ check-of Bounds = refl
 check-of Twice = refl
 check-of Orphan = refl
 check-of Total = refl
+
+-- and that check has the number
+pub check-number : (k : ℕ) → k < 9 → numberOf (checkOf (k + 1)) ≡ k + 1
+check-number = every 9 (λ k. isEqual (numberOf (checkOf (k + 1))) (k + 1)) .out tt
 
 pub number-inj : (c d : Check) → numberOf c ≡ numberOf d → c ≡ d
 number-inj c d e = sym (check-of c) ∙ ap checkOf e ∙ check-of d

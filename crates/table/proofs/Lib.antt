@@ -1,4 +1,4 @@
--- Laws of the definitions of specs/, a file for each notion; the layers above use those marked pub.
+-- Laws of the definitions of specs/, a file for each notion, and tests that compute them; the layers above use what is marked pub.
 pub mod Lowest
 pub mod Lists
 pub mod Sum
@@ -8,5 +8,10 @@ pub mod SeenSoFar
 pub mod Checks
 pub mod Children
 pub mod Facts
+pub mod Test
+pub mod Plus
+pub mod Closure
 pub mod Answers
+pub mod TableTests
+pub mod Samples
 pub mod Downwards

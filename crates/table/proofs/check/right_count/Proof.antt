@@ -1,6 +1,5 @@
 -- By the ranges of the kind. Assumes nothing.
 use Rattle.table.specs.Check.{RightCount}
--- By the ranges of the kind. Assumes nothing.
 use Rattle.table.proofs.Lowest.{tells-eq-as, tells-le-as}
 use Rattle.table.proofs.Checks.{right-none, right-some}
 use native.Mathlib.Omega.{arith}
@@ -21,7 +20,8 @@ returns-2 c =
 returns-3 : tie.Need-returns-3
 returns-3 c =
     let a = c .before .before .before .args in
-    tells-le-as (RightCount (a .kind) (a .count)) (a .count) 16 (λ e. omega arith) (λ r. right-some (a .kind) (c .before .before .if1 .left) (c .before .if2 .taken) r .1)
+    tells-le-as (RightCount (a .kind) (a .count)) (a .count) _ (λ e. omega arith)
+    (λ r. let s = right-some (a .kind) (c .before .before .if1 .left) (c .before .if2 .taken) r in omega arith)
 
 returns-4 : tie.Need-returns-4
 returns-4 c =
