@@ -9,8 +9,6 @@ pub mod Checks
 pub mod Children
 pub mod Facts
 pub mod Test
-pub mod Plus
-pub mod Closure
 pub mod Answers
 pub mod TableTests
 pub mod Samples

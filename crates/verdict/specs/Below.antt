@@ -1,8 +1,10 @@
 -- Below (document 01, "The three conditions"): a type X is below Y if X is Y or can be reached from Y by going from types to their children;
 -- a privilege is below Y if its type is. Assumes nothing.
 use Prim.Native.Nat.{ℕ, _≤_, _<_}
+use mathlib.Core.Path.{_≡_}
+use mathlib.Core.Logic.{_⊎_}
 use mathlib.Core.List.{List}
-use lib.ListN.{getD}
+use lib.ListN.{length, getD}
 use Rattle.table.specs.Words.{types}
 use Rattle.table.specs.Rule.{Child}
 use Rattle.table.specs.Privilege.{Belongs}
@@ -36,6 +38,23 @@ pub record Low (P : ℕ → Type 0) (r : ℕ) : Type 0 where
   pub top : r ≤ 65535
   pub here : r < 65535 → P r
   pub least : (q : ℕ) → P q → r ≤ q
+
+-- privilege p stands from one number up to another, and is forbidden
+pub record Range (marks : List ℕ) (from until p : ℕ) : Type 0 where
+  pub low : from ≤ p
+  pub high : p < until
+  pub forbidden : Forbidden marks p
+
+-- r is the least of own and of the numbers of the first n children
+pub record Least (n : ℕ) (kids low : List ℕ) (own r : ℕ) : Type 0 where
+  pub under-own : r ≤ own
+  pub under-each : (i : ℕ) → i < n → r ≤ getD low (getD kids i 0) 0
+  pub one : (r ≡ own) ⊎ ((i : ℕ) × (i < n) × (r ≡ getD low (getD kids i 0) 0))
+
+-- a number for each type: the lowest forbidden privilege of its own
+pub record OwnLows (ws marks low : List ℕ) : Type 0 where
+  pub size : length low ≡ 256
+  pub each : (x : ℕ) → x < types ws → Low (ForbiddenOwn ws marks x) (getD low x 0)
 
 -- a number for each type: the lowest forbidden privilege below it
 abbrev pub Lows : List ℕ → List ℕ → List ℕ → Type 0

@@ -75,3 +75,9 @@ pub record FirstBreach (ws marks : List ℕ) (b : Breach) : Type 0 where
 pub data Verdict (ws marks : List ℕ) (b : Breach) : Type 0 where
   clean : Clean ws marks → b ≡ noBreach → Verdict ws marks b
   broken : FirstBreach ws marks b → Verdict ws marks b
+
+-- the first breach at type x, or five zeros where it has none
+pub data BreachAt (ws marks : List ℕ) (x : ℕ) (b : Breach) : Type 0 where
+  none : b ≡ noBreach → ((c : Breach) → IsBreach ws marks c → c .element ≢ x) → BreachAt ws marks x b
+  first : IsBreach ws marks b → b .element ≡ x → ((c : Breach) → IsBreach ws marks c → c .element ≡ x → ¬ Lex (key c) (key b))
+      → BreachAt ws marks x b

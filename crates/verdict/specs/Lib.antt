@@ -2,7 +2,9 @@
 pub mod Marks
 pub mod Below
 pub mod Reached
+pub mod Squares
 pub mod Conditions
 pub mod Forces
 pub mod Breaches
+pub mod Visits
 pub mod Answers

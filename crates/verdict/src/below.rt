@@ -1,12 +1,10 @@
 // What is forbidden below each type, in one pass along the order in which every type comes after its children.
 // Contracts cite specs/Below.
-ghost use mathlib.Core.Path.{_≡_};
-ghost use mathlib.Core.Logic.{_⊎_};
 ghost use Prim.Native.Nat.{ℕ, _≤_, _<_};
 ghost use lib.ListN.{length, getD};
 ghost use Rattle.table.specs.Words.{types};
-ghost use Rattle.verdict.specs.Marks.{Forbidden, Policy};
-ghost use Rattle.verdict.specs.Below.{Low, ForbiddenOwn, ForbiddenBelow, Lows, WorstBelow, Lesser, Range};
+ghost use Rattle.verdict.specs.Marks.{Policy};
+ghost use Rattle.verdict.specs.Below.{Low, OwnLows, Lows, WorstBelow, Least, Range};
 use super::marks::mark_at;
 use table::Found;
 use table::order::bottom_up;
@@ -33,7 +31,7 @@ fn forbidden_from(marks: &[u8], from: usize, until: usize) -> u16
 // For each type the lowest forbidden privilege of its own, or 65,535.
 fn own_lows(words: &[u16], marks: &[u8]) -> [u16; 256]
     requires { ⌜ Policy (now words) (now marks) ⌝ }
-    ensures { λ r. ⌜ ((x : ℕ) → x < types (now (words .entry)) → Low (ForbiddenOwn (now (words .entry)) (now (marks .entry)) x) (getD r x 0)) ⌝ }
+    ensures { λ r. ⌜ OwnLows (now (words .entry)) (now (marks .entry)) r ⌝ }
 {
     let e = types(words);
     let mut low = [65535u16; 256];
@@ -51,7 +49,7 @@ fn own_lows(words: &[u16], marks: &[u8]) -> [u16; 256]
 // The least of a number and those of the children.
 fn least_of(kids: &[u16], low: &[u16; 256], own: u16) -> u16
     requires { ⌜ ((i : ℕ) → i < length (now kids) → getD (now kids) i 0 < 256) ⌝ }
-    ensures { λ r. ⌜ Lesser (now (kids .entry)) (now (low .entry)) own r ⌝ }
+    ensures { λ r. ⌜ Least (length (now (kids .entry))) (now (kids .entry)) (now (low .entry)) own r ⌝ }
 {
     let mut least = own;
     let mut i = 0;
@@ -76,17 +74,21 @@ pub fn forbidden_lows(words: &[u16], marks: &[u8]) -> [u16; 256]
     let mut k = 0;
     while k < e {
         let x = order[k] as usize;
-        let least = least_of(children(words, x), &low, low[x]);
-        low[x] = least;
+        let own = low[x];
+        low[x] = least_of(children(words, x), &low, own);
         k += 1;
     }
     low
 }
 
-// What is forbidden below type y: the lowest privilege, or nothing.
-pub fn forbidden_below(low: u16) -> Found {
-    if low == 65535 {
+// What is forbidden below type y of a policy: the lowest privilege, or nothing.
+pub fn forbidden_below(words: &[u16], marks: &[u8], low: &[u16; 256], y: usize) -> Found
+    requires { ⌜ Policy (now words) (now marks) × Lows (now words) (now marks) (now low) × (y < types (now words)) ⌝ }
+    ensures { λ r. ⌜ WorstBelow (now (words .entry)) (now (marks .entry)) y r ⌝ }
+{
+    let lowest = low[y];
+    if lowest == 65535 {
         return Found::Nothing;
     }
-    Found::At(low as usize)
+    Found::At(lowest as usize)
 }

@@ -1,5 +1,12 @@
 // The verdict on a policy: the three conditions, and the first breach of them.
 // Contracts cite specs/Answers for what the call answers, and specs/Conditions and specs/Breaches for what a verdict is.
+ghost use mathlib.Core.Path.{_≡_};
+ghost use Rattle.verdict.specs.Answers.{refusal, JudgeAnswer};
+
+pub mod below;
+pub mod breaches;
+pub mod marks;
+pub mod reach;
 
 // What a breach breaks.
 pub enum Condition {
@@ -24,4 +31,34 @@ pub struct Answer {
     pub place: usize,
     pub count: usize,
     pub breach: Breach,
+}
+
+// A refusal: count 0, five zeros.
+pub fn refused(number: u8, place: usize) -> Answer
+    ensures { λ r. ⌜ r ≡ refusal number place ⌝ }
+{
+    let none = breaches::no_breach();
+    Answer {
+        number: number,
+        place: place,
+        count: 0,
+        breach: none,
+    }
+}
+
+// Judges a policy, whatever is lent: refuses with 1 to 11, or answers 0 with the first breach, five zeros where there is none.
+pub fn judge_policy(words: &[u16], marks: &[u8]) -> Answer
+    ensures { λ r. ⌜ JudgeAnswer (now (words .entry)) (now (marks .entry)) r ⌝ }
+{
+    let checked = marks::check_policy(words, marks);
+    if checked.number != 0 {
+        return refused(checked.number, checked.place);
+    }
+    let first = breaches::first_breach(words, marks);
+    Answer {
+        number: 0,
+        place: 0,
+        count: 0,
+        breach: first,
+    }
 }

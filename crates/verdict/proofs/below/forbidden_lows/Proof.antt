@@ -1,0 +1,114 @@
+-- The pass keeps what the types passed, and those still to come, hold. Assumes nothing.
+use borrow.Author.Needs.{needs}
+use Rattle.verdict.proofs.Lows.{Climbed, climb-start, climb-more, climb-all}
+use Rattle.table.proofs.Facts.{facts}
+use Rattle.table.specs.Order.{BottomUp}
+use Rattle.table.specs.Words.{types}
+use lib.ListN.{getD}
+use denote.Ref.{now}
+use native.Mathlib.Omega.{arith}
+use Prim.Native.Nat.{_-_, _≤_, _<_}
+use Rattle.verdict.proofs.below.forbidden_lows.Statement.{statement}
+use Rattle.verdict.proofs.below.forbidden_lows.Tie as tie
+
+abbrev Inv-loop : tie.InvT-loop
+Inv-loop words marks order e low₀ k₀ low k = Climbed words marks order k low
+
+abbrev μ-loop : tie.MeasureT-loop
+μ-loop words marks order e low₀ k₀ low k = e - k
+
+order-up : (c : tie.After-bottom-up Inv-loop μ-loop) → BottomUp (now (c .before .before .before .args .words)) (c .bottom-up .result)
+order-up c = c .bottom-up .ensures (c .before .before .before .pre .accepted)
+
+-- the loop stands at a place of the order, which holds a type
+is-type : (c : tie.In-loop Inv-loop μ-loop) → c .before .loop .k < types (now (c .before .before .before .before .before .before .before .args .words))
+is-type c = omega (arith, c .loop-test .taken, c .before .before .before .types .ensures .is)
+
+few : (c : tie.In-loop Inv-loop μ-loop) → types (now (c .before .before .before .before .before .before .before .args .words)) ≤ 256
+few c = facts (c .before .before .before .before .before .before .before .pre .accepted) .few
+
+index : (c : tie.In-loop Inv-loop μ-loop) → getD (c .before .before .before .before .bottom-up .result) (c .before .loop .k) 0 < 256
+index c = omega (arith, few c, order-up (c .before .before .before .before) .inside _ (is-type c))
+
+bottom-up-requires : tie.Need-bottom-up-requires Inv-loop μ-loop
+bottom-up-requires c κs = search needs
+
+types-requires : tie.Need-types-requires Inv-loop μ-loop
+types-requires c κs = search needs
+
+own-lows-requires : tie.Need-own-lows-requires Inv-loop μ-loop
+own-lows-requires c κs = c .before .before .before .before .pre
+
+loop-holds : tie.Need-loop-holds Inv-loop μ-loop
+loop-holds c = climb-start (order-up (c .before .before)) (c .own-lows .ensures)
+
+array-read-x : tie.Need-array-read-x Inv-loop μ-loop
+array-read-x c = omega (arith, is-type c, few c)
+
+cast-x : tie.Need-cast-x Inv-loop μ-loop
+cast-x c = omega (arith, index c)
+
+mul-own : tie.Need-mul-own Inv-loop μ-loop
+mul-own c = omega (arith, index c)
+
+array-read-own : tie.Need-array-read-own Inv-loop μ-loop
+array-read-own c = index c
+
+children-requires : tie.Need-children-requires Inv-loop μ-loop
+children-requires c κs = search needs
+
+least-of-requires : tie.Need-least-of-requires Inv-loop μ-loop
+least-of-requires c κs =
+    let loop = c .before .before in
+    let start = loop .before .before .before .before .before .before .before in
+    let kids = c .before .children .ensures in
+    let f = facts (start .pre .accepted) in
+    let up = order-up (loop .before .before .before .before) .inside _ (is-type loop) in
+    λ i l. rw kids (omega (arith, few loop, f .child-inside _ i up (rw (← f .children-here _ up, ← kids) l)))
+
+mul-low : tie.Need-mul-low Inv-loop μ-loop
+mul-low c = omega (arith, index (c .before .before .before))
+
+array-write-low : tie.Need-array-write-low Inv-loop μ-loop
+array-write-low c = index (c .before .before .before)
+
+add-k : tie.Need-add-k Inv-loop μ-loop
+add-k c = omega arith
+
+loop-less : tie.Need-loop-less Inv-loop μ-loop
+loop-less c = omega arith
+
+loop-again : tie.Need-loop-again Inv-loop μ-loop
+loop-again c =
+    let loop = c .before .before .before in
+    let start = loop .before .before .before .before .before .before .before in
+    climb-more (start .pre) (order-up (loop .before .before .before .before)) (loop .before .loop .inv) (is-type loop)
+    (rw (c .before .before .children .ensures) at (c .least-of .ensures))
+
+returns : tie.Need-returns Inv-loop μ-loop
+returns c =
+    let at = c .before in
+    climb-all (order-up (at .before .before .before)) (at .loop .inv) (omega (arith, c .loop-test .left, at .before .before .types .ensures .is))
+
+pub forbidden-lows-spec : {M : Type 1} → statement M
+forbidden-lows-spec =
+    tie.close
+    (tie.spec
+    Inv-loop
+    μ-loop
+    bottom-up-requires
+    types-requires
+    own-lows-requires
+    loop-holds
+    array-read-x
+    cast-x
+    mul-own
+    array-read-own
+    children-requires
+    least-of-requires
+    mul-low
+    array-write-low
+    add-k
+    loop-less
+    loop-again
+    returns)

@@ -1,0 +1,118 @@
+-- By the cases of the rule. Assumes nothing.
+use Rattle.verdict.proofs.Breached.{plain-none}
+use Rattle.verdict.specs.Breaches.{none}
+use Rattle.table.specs.declared.rule.Rule.{Rule}
+use Rattle.table.specs.Rule.{ruleAt, kindIn}
+use denote.Ref.{now}
+use native.Mathlib.Omega.{arith}
+use mathlib.Core.Path.{_≡_, sym, ap, _∙_}
+use borrow.Author.Needs.{needs}
+use Rattle.verdict.proofs.breaches.breach_at.Statement.{statement}
+use Rattle.verdict.proofs.breaches.breach_at.Tie as tie
+
+-- the kind of the type is that of the rule that was read
+kind : (c : tie.After-rule-at) {r : Rule} → c .rule-at .result ≡ r → kindIn (ruleAt (now (c .before .before .before .args .words)) (c .before .before .before .args .x)) ≡ kindIn r
+kind c e = ap kindIn (sym (c .rule-at .ensures .is) ∙ e)
+
+rule-at-requires : tie.Need-rule-at-requires
+rule-at-requires c κs = search needs
+
+enum-told : tie.Need-enum-told
+enum-told c = search needs
+
+no-breach-requires : tie.Need-no-breach-requires
+no-breach-requires c κs = search needs
+
+enum-told-2 : tie.Need-enum-told-2
+enum-told-2 c = search needs
+
+no-breach-requires-2 : tie.Need-no-breach-requires-2
+no-breach-requires-2 c κs = search needs
+
+enum-told-3 : tie.Need-enum-told-3
+enum-told-3 c = search needs
+
+no-breach-requires-3 : tie.Need-no-breach-requires-3
+no-breach-requires-3 c κs = search needs
+
+enum-told-4 : tie.Need-enum-told-4
+enum-told-4 c = search needs
+
+children-requires : tie.Need-children-requires
+children-requires c κs = search needs
+
+numbers-at-requires : tie.Need-numbers-at-requires
+numbers-at-requires c κs = search needs
+
+choice-breach-requires : tie.Need-choice-breach-requires
+choice-breach-requires c κs =
+    let start = c .before .before .before .before .before .before .before in
+    let p = start .pre in (
+      record { policy = p .0; lows = p .1; type = p .2; kids-are = c .before .children .ensures },
+      c .numbers-at .ensures (p .0 .accepted) (p .2) (p .3),
+      record { type = p .2; kind-is = kind (c .before .before .before .before) (c .before .before .enum-told4 .given .1) },
+    )
+
+enum-told-5 : tie.Need-enum-told-5
+enum-told-5 c = search needs
+
+children-requires-2 : tie.Need-children-requires-2
+children-requires-2 c κs = search needs
+
+numbers-at-requires-2 : tie.Need-numbers-at-requires-2
+numbers-at-requires-2 c κs = search needs
+
+star-breach-requires : tie.Need-star-breach-requires
+star-breach-requires c κs =
+    let start = c .before .before .before .before .before .before .before in
+    let p = start .pre in (
+      record { policy = p .0; lows = p .1; type = p .2; kids-are = c .before .children2 .ensures },
+      c .numbers-at2 .ensures (p .0 .accepted) (p .2) (p .3),
+      record { type = p .2; kind-is = kind (c .before .before .before .before) (c .before .before .enum-told5 .given .1) },
+    )
+
+returns : tie.Need-returns
+returns c =
+    let k = kind (c .before .before .before) (c .before .enum-told .given .1) in
+    none (c .no-breach .ensures) (plain-none _ _ _ (λ e. omega arith) (λ e. omega arith))
+
+returns-2 : tie.Need-returns-2
+returns-2 c =
+    let k = kind (c .before .before .before) (c .before .enum-told2 .given .1) in
+    none (c .no-breach2 .ensures) (plain-none _ _ _ (λ e. omega arith) (λ e. omega arith))
+
+returns-3 : tie.Need-returns-3
+returns-3 c =
+    let k = kind (c .before .before .before) (c .before .enum-told3 .given .1) in
+    none (c .no-breach3 .ensures) (plain-none _ _ _ (λ e. omega arith) (λ e. omega arith))
+
+returns-4 : tie.Need-returns-4
+returns-4 c = search needs
+
+returns-5 : tie.Need-returns-5
+returns-5 c = search needs
+
+pub breach-at-spec : {M : Type 1} → statement M
+breach-at-spec =
+    tie.close
+    (tie.spec
+    rule-at-requires
+    enum-told
+    no-breach-requires
+    enum-told-2
+    no-breach-requires-2
+    enum-told-3
+    no-breach-requires-3
+    enum-told-4
+    children-requires
+    numbers-at-requires
+    choice-breach-requires
+    enum-told-5
+    children-requires-2
+    numbers-at-requires-2
+    star-breach-requires
+    returns
+    returns-2
+    returns-3
+    returns-4
+    returns-5)

@@ -1,0 +1,35 @@
+use Rattle.verdict.proofs.Policies.{marks-refused, marks-fit, table-accepted}
+use Rattle.verdict.specs.Marks.{refused, fits, table, marks}
+use native.Mathlib.Omega.{arith}
+-- The table comes first, then the marks. Assumes nothing.
+use Rattle.verdict.specs.Marks.{fit, refused, fits, table, marks}
+use borrow.Author.Needs.{needs}
+use Rattle.verdict.proofs.marks.check_policy.Statement.{statement}
+use Rattle.verdict.proofs.marks.check_policy.Tie as tie
+
+check-table-requires : tie.Need-check-table-requires
+check-table-requires c κs = search needs
+
+returns : tie.Need-returns
+returns c = refused (table (c .if1 .taken) (c .before .before .check-table .ensures))
+
+check-marks-requires : tie.Need-check-marks-requires
+check-marks-requires c κs = search needs
+
+returns-2 : tie.Need-returns-2
+returns-2 c =
+    let read = c .before .before in
+    let first = read .before in
+    let t = table-accepted (first .if1 .left) (first .before .before .check-table .ensures) in
+    refused (marks (t .0) (rw (t .1) at (marks-refused (c .if2 .taken) (read .check-marks .ensures))))
+
+returns-3 : tie.Need-returns-3
+returns-3 c =
+    let read = c .before .before in
+    let first = read .before in
+    let t = table-accepted (first .if1 .left) (first .before .before .check-table .ensures) in
+    fits (record { accepted = t .0; fit = rw (t .1) at (marks-fit (omega arith) (c .if2 .left) (read .check-marks .ensures)) }) (first .if1 .left) (t .1)
+
+pub check-policy-spec : {M : Type 1} → statement M
+check-policy-spec =
+    tie.close (tie.spec check-table-requires returns check-marks-requires returns-2 returns-3)

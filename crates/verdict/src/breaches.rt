@@ -1,0 +1,230 @@
+// The first breach of a policy, type by type. Contracts cite specs/Breaches, and specs/Visits for the parts.
+ghost use mathlib.Core.Path.{_≡_};
+ghost use Prim.Native.Nat.{_<_};
+ghost use Rattle.table.specs.Words.{types};
+ghost use Rattle.table.specs.Rule.{IsChoice, IsStar, countOf};
+ghost use Rattle.table.specs.Privilege.{firstPrivilege, NumberedAs};
+ghost use Rattle.table.specs.Lowest.{Tells};
+ghost use Rattle.verdict.specs.Marks.{Allowed, Policy};
+ghost use Rattle.verdict.specs.Below.{Lows};
+ghost use Rattle.verdict.specs.Reached.{Reached, Square};
+ghost use Rattle.verdict.specs.Squares.{Small};
+ghost use Rattle.verdict.specs.Breaches.{noBreach, BreachAt, Verdict};
+ghost use Rattle.verdict.specs.Visits.{Visited, Broken, FirstPair, CycleAt};
+use super::Breach;
+use super::Condition;
+use super::below::forbidden_below;
+use super::below::forbidden_lows;
+use super::marks::mark_at;
+use super::reach::leads;
+use super::reach::reached;
+use table::Found;
+use table::privilege::Numbering;
+use table::privilege::deletion;
+use table::privilege::insertion;
+use table::privilege::numbers_at;
+use table::privilege::privileges_at;
+use table::privilege::replacement;
+use table::rule::Rule;
+use table::rule::children;
+use table::rule::rule_at;
+use table::words::types;
+use table::words::word_at;
+
+// A pair of positions, or none.
+pub enum Pair {
+    At(usize, usize),
+    Nothing,
+}
+
+// Five zeros.
+pub fn no_breach() -> Breach
+    ensures { λ r. ⌜ r ≡ noBreach ⌝ }
+{
+    Breach {
+        condition: Condition::None,
+        element: 0,
+        i: 0,
+        j: 0,
+        privilege: 0,
+    }
+}
+
+// Does the square lead from i to another position j, by which i must not be replaced?
+fn is_broken(marks: &[u8], n: Numbering, square: &[u8; 256], i: usize, j: usize) -> bool
+    requires { ⌜ Small n × (i < n .count) × (j < n .count) ⌝ }
+    ensures { λ r. ⌜ Tells (Broken (now (marks .entry)) n (now (square .entry)) i j) r ⌝ }
+{
+    if i == j {
+        return false;
+    }
+    if !leads(square, i, j) {
+        return false;
+    }
+    mark_at(marks, replacement(n, i, j)) == 2
+}
+
+// The first such pair: the lowest i, then the lowest j.
+fn first_broken(marks: &[u8], n: Numbering, square: &[u8; 256]) -> Pair
+    requires { ⌜ Small n ⌝ }
+    ensures { λ r. ⌜ FirstPair (Broken (now (marks .entry)) n (now (square .entry))) (n .count) r ⌝ }
+{
+    let count = n.count;
+    let mut found = Pair::Nothing;
+    let mut i = 0;
+    'search: while i < count {
+        let mut j = 0;
+        while j < count {
+            if is_broken(marks, n, square, i, j) {
+                found = Pair::At(i, j);
+                break 'search;
+            }
+            j += 1;
+        }
+        i += 1;
+    }
+    found
+}
+
+// The first breach at the star x.
+fn star_breach(
+    words: &[u16],
+    marks: &[u8],
+    low: &[u16; 256],
+    x: usize,
+    kids: &[u16],
+    n: Numbering,
+) -> Breach
+    requires { ⌜ Visited (now words) (now marks) (now low) x (now kids) × NumberedAs (now words) x n × IsStar (now words) x ⌝ }
+    ensures { λ r. ⌜ BreachAt (now (words .entry)) (now (marks .entry)) x r ⌝ }
+{
+    if mark_at(marks, insertion(n)) != 1 {
+        return no_breach();
+    }
+    if mark_at(marks, deletion(n)) != 1 {
+        return no_breach();
+    }
+    let found = forbidden_below(words, marks, low, word_at(kids, 0));
+    if let Found::At(privilege) = found {
+        return Breach {
+            condition: Condition::InsertDelete,
+            element: x,
+            i: 0,
+            j: 0,
+            privilege: privilege,
+        };
+    }
+    no_breach()
+}
+
+// The first breach of condition 3 at the choice x, whose square tells what is reached.
+fn cycle_breach(
+    words: &[u16],
+    marks: &[u8],
+    low: &[u16; 256],
+    x: usize,
+    kids: &[u16],
+    square: &[u8; 256],
+) -> Breach
+    requires { ⌜ Visited (now words) (now marks) (now low) x (now kids) × IsChoice (now words) x × Square (countOf (now words) x) (Reached (now words) (Allowed (now marks)) x) (now square) ⌝ }
+    ensures { λ r. ⌜ CycleAt (now (words .entry)) (now (marks .entry)) x r ⌝ }
+{
+    let mut i = 0;
+    while i < kids.len() {
+        if leads(square, i, i) {
+            let found = forbidden_below(words, marks, low, word_at(kids, i));
+            if let Found::At(privilege) = found {
+                return Breach {
+                    condition: Condition::Cycle,
+                    element: x,
+                    i: i,
+                    j: i,
+                    privilege: privilege,
+                };
+            }
+        }
+        i += 1;
+    }
+    no_breach()
+}
+
+// The first breach at the choice x: a chain before a cycle.
+fn choice_breach(
+    words: &[u16],
+    marks: &[u8],
+    low: &[u16; 256],
+    x: usize,
+    kids: &[u16],
+    n: Numbering,
+) -> Breach
+    requires { ⌜ Visited (now words) (now marks) (now low) x (now kids) × NumberedAs (now words) x n × IsChoice (now words) x ⌝ }
+    ensures { λ r. ⌜ BreachAt (now (words .entry)) (now (marks .entry)) x r ⌝ }
+{
+    let square = reached(words, marks, x, kids, n);
+    let chain = first_broken(marks, n, &square);
+    if let Pair::At(i, j) = chain {
+        return Breach {
+            condition: Condition::Chain,
+            element: x,
+            i: i,
+            j: j,
+            privilege: replacement(n, i, j),
+        };
+    }
+    cycle_breach(words, marks, low, x, kids, &square)
+}
+
+// The first breach at type x, whose first privilege is given.
+fn breach_at(words: &[u16], marks: &[u8], low: &[u16; 256], x: usize, first: usize) -> Breach
+    requires { ⌜ Policy (now words) (now marks) × Lows (now words) (now marks) (now low) × (x < types (now words)) × (first ≡ firstPrivilege (now words) x) ⌝ }
+    ensures { λ r. ⌜ BreachAt (now (words .entry)) (now (marks .entry)) x r ⌝ }
+{
+    let rule = rule_at(words, x);
+    match rule {
+        Rule::Empty => no_breach(),
+        Rule::Text => no_breach(),
+        Rule::Sequence { first: _, count: _ } => no_breach(),
+        Rule::Choice { first: _, count: _ } => {
+            choice_breach(
+                words,
+                marks,
+                low,
+                x,
+                children(words, x),
+                numbers_at(words, x, first),
+            )
+        }
+        Rule::Star { first: _, count: _ } => {
+            star_breach(
+                words,
+                marks,
+                low,
+                x,
+                children(words, x),
+                numbers_at(words, x, first),
+            )
+        }
+    }
+}
+
+// The first breach of a policy, or five zeros where it is clean.
+pub fn first_breach(words: &[u16], marks: &[u8]) -> Breach
+    requires { ⌜ Policy (now words) (now marks) ⌝ }
+    ensures { λ r. ⌜ Verdict (now (words .entry)) (now (marks .entry)) r ⌝ }
+{
+    let low = forbidden_lows(words, marks);
+    let e = types(words);
+    let mut first = 0;
+    let mut x = 0;
+    while x < e {
+        let breach = breach_at(words, marks, &low, x, first);
+        let condition = breach.condition;
+        if let Condition::None = condition {
+            first += privileges_at(words, x);
+            x += 1;
+        } else {
+            return breach;
+        }
+    }
+    no_breach()
+}
