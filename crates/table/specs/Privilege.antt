@@ -6,6 +6,7 @@ use mathlib.Core.Logic.{_≢_}
 use mathlib.Core.Bool.{cond}
 use mathlib.Core.List.{List}
 use lib.Dec.{ltb}
+use lib.ListN.{getD}
 use Rattle.table.specs.Sum.{sumBelow}
 use Rattle.table.specs.Words.{types}
 use Rattle.table.specs.Rule.{ruleAt, countOf, IsText, IsChoice, IsStar}
@@ -28,6 +29,10 @@ privilegesAt ws x = privilegesOf (ruleAt ws x)
 -- the first privilege of type x
 unfoldable pub firstPrivilege : List ℕ → ℕ → ℕ
 firstPrivilege ws x = sumBelow (privilegesAt ws) x
+
+-- a number for each type: its first privilege
+abbrev pub Firsts : List ℕ → List ℕ → Type 0
+Firsts ws firsts = (x : ℕ) → x < types ws → getD firsts x 0 ≡ firstPrivilege ws x
 
 -- V, the number of privileges
 unfoldable pub privileges : List ℕ → ℕ

@@ -3,12 +3,13 @@ ghost use mathlib.Core.Path.{_≡_};
 ghost use Prim.Native.Nat.{_≤_, _<_};
 ghost use Rattle.table.specs.Words.{Within, types};
 ghost use Rattle.table.specs.Rule.{countIn};
-ghost use Rattle.table.specs.Privilege.{privilegesOf, privilegesAt, firstPrivilege, privileges, NumberedAs, Positions, insertIn, deleteIn, replaceIn, ReplaceableIn};
+ghost use Rattle.table.specs.Privilege.{privilegesOf, privilegesAt, firstPrivilege, privileges, Firsts, NumberedAs, Positions, insertIn, deleteIn, replaceIn, ReplaceableIn};
 ghost use Rattle.table.specs.Check.{Accepted};
 ghost use Rattle.table.specs.Lowest.{Tells};
 use super::rule::Rule;
 use super::rule::count_in;
 use super::rule::rule_at;
+use super::words::lesser;
 use super::words::types;
 
 fn privileges_of(rule: Rule) -> usize
@@ -43,6 +44,22 @@ pub fn privileges(words: &[u16]) -> usize
         x += 1;
     }
     sum
+}
+
+// The first privilege of each type of a table.
+pub fn first_privileges(words: &[u16]) -> [u16; 256]
+    ensures { λ r. ⌜ (Accepted (now (words .entry)) → Firsts (now (words .entry)) r) ⌝ }
+{
+    let e = lesser(types(words), 256);
+    let mut firsts = [0u16; 256];
+    let mut first = 0;
+    let mut x = 0;
+    while x < e {
+        firsts[x] = (first % 65536) as u16;
+        first += privileges_at(words, x);
+        x += 1;
+    }
+    firsts
 }
 
 // How the edits at a type are numbered.
