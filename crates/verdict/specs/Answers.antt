@@ -15,6 +15,10 @@ refusal number place = record { number = number; place = place; count = 0; breac
 abbrev pub done : ℕ → Answer
 done count = record { number = 0; place = 0; count = count; breach = noBreach }
 
+-- number 16: a refusal with the breach
+abbrev pub breached : Breach → Answer
+breached b = record { number = 16; place = 0; count = 0; breach = b }
+
 -- the verdict's breach is a result with number 0
 abbrev pub verdictOf : Breach → Answer
 verdictOf b = record { number = 0; place = 0; count = 0; breach = b }

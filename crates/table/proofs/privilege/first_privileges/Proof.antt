@@ -70,10 +70,10 @@ returns c =
     let at = c .before in
     let ws = now (at .before .before .before .before .args .words) in
     λ a x l.
-        let f = facts a in
-        let end = at .before .lesser .ensures in
-        let read = at .before .before .types .ensures .is in
-        omega (arith, at .loop .inv .5 x (omega (arith, f .few, c .loop-test .left)), first-within ws x (omega arith), f .privileges-few)
+    let f = facts a in
+    let end = at .before .lesser .ensures in
+    let read = at .before .before .types .ensures .is in
+    omega (arith, at .loop .inv .5 x (omega (arith, f .few, c .loop-test .left)), first-within ws x (omega arith), f .privileges-few)
 
 pub first-privileges-spec : {M : Type 1} → statement M
 first-privileges-spec =

@@ -1,0 +1,3 @@
+-- Laws of the definitions of specs/, a file for each notion; the layers above use those marked pub.
+pub mod Closed
+pub mod Least

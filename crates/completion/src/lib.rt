@@ -1,0 +1,40 @@
+// The least completion of a policy. Contracts cite specs/Answers and specs/Completions.
+ghost use Rattle.completion.specs.Answers.{CompleteAnswer};
+
+pub mod open;
+pub mod pass;
+pub mod write;
+
+use pass::complete_all;
+use table::privilege::privileges;
+use verdict::Answer;
+use verdict::Condition;
+use verdict::breaches::first_breach;
+use verdict::breaches::no_breach;
+use verdict::marks::check_policy;
+use verdict::refused;
+
+// Completes a policy with the least permission: refuses with 1 to 12 or 16, or writes V decided marks into the result, whose rest it keeps.
+pub fn complete(words: &[u16], marks: &[u8], out: &mut [u8]) -> Answer
+    ensures { λ r. ⌜ CompleteAnswer (now (words .entry)) (now (marks .entry)) (now (out .entry)) r (now (out .exit)) ⌝ }
+{
+    let checked = check_policy(words, marks);
+    if checked.number != 0 {
+        return refused(checked.number, checked.place);
+    }
+    if out.len() < checked.place {
+        return refused(12, 0);
+    }
+    let breach = first_breach(words, marks);
+    let condition = breach.condition;
+    if let Condition::None = condition {
+        complete_all(words, marks, out);
+        return refused(0, 0);
+    }
+    Answer {
+        number: 16,
+        place: 0,
+        count: 0,
+        breach: breach,
+    }
+}

@@ -1,0 +1,162 @@
+// One pass from parents to children: each type opens what it passes on, and its marks are written. Contracts cite specs/Passes.
+ghost use mathlib.Core.Path.{_≡_};
+ghost use Prim.Native.Nat.{_≤_, _<_};
+ghost use lib.ListN.{length};
+ghost use Rattle.table.specs.Lowest.{Tells};
+ghost use Rattle.table.specs.Words.{types};
+ghost use Rattle.table.specs.Rule.{childrenAt, IsChoice, IsStar};
+ghost use Rattle.table.specs.Privilege.{firstPrivilege, privileges};
+ghost use Rattle.verdict.specs.Marks.{Allowed, Policy};
+ghost use Rattle.completion.specs.Opens.{Opened};
+ghost use Rattle.completion.specs.Writing.{isOpen};
+ghost use Rattle.completion.specs.Passes.{Visited, Both, Done, Filled};
+use super::open::open_all;
+use super::open::open_cycles;
+use super::write::write_choice;
+use super::write::write_range;
+use table::order::bottom_up;
+use table::privilege::Numbering;
+use table::privilege::deletion;
+use table::privilege::first_privileges;
+use table::privilege::insertion;
+use table::privilege::numbers_at;
+use table::privilege::privileges_at;
+use table::rule::Rule;
+use table::rule::children;
+use table::rule::rule_at;
+use table::words::types;
+use verdict::marks::mark_at;
+use verdict::reach::reached;
+
+// Are the insert and the delete both allowed?
+fn both_allowed(marks: &[u8], n: Numbering) -> bool
+    requires { ⌜ n .first ≤ 4096 ⌝ }
+    ensures { λ r. ⌜ Tells (Both (now (marks .entry)) n) r ⌝ }
+{
+    if mark_at(marks, insertion(n)) != 1 {
+        return false;
+    }
+    mark_at(marks, deletion(n)) == 1
+}
+
+// An opened type: its children are opened, and all its privileges allowed.
+fn complete_opened(
+    words: &[u16],
+    marks: &[u8],
+    x: usize,
+    first: usize,
+    kids: &[u16],
+    opened: &mut [u8; 256],
+    out: &mut [u8],
+)
+    requires { ⌜ Visited (now words) (now marks) x first (now kids) (now opened) (now out) × Opened (now words) (Allowed (now marks)) x ⌝ }
+    ensures { λ _. ⌜ Done (now (words .entry)) (now (marks .entry)) x (now (opened .entry)) (now (out .entry)) (now (opened .exit)) (now (out .exit)) ⌝ }
+{
+    open_all(opened, kids);
+    write_range(out, marks, true, first, first + privileges_at(words, x));
+}
+
+// A star that is not opened: it opens its child where it can be deleted and inserted anew.
+fn complete_star(
+    words: &[u16],
+    marks: &[u8],
+    x: usize,
+    first: usize,
+    kids: &[u16],
+    opened: &mut [u8; 256],
+    out: &mut [u8],
+)
+    requires { ⌜ Visited (now words) (now marks) x first (now kids) (now opened) (now out) × (Opened (now words) (Allowed (now marks)) x → ⊥) × IsStar (now words) x ⌝ }
+    ensures { λ _. ⌜ Done (now (words .entry)) (now (marks .entry)) x (now (opened .entry)) (now (out .entry)) (now (opened .exit)) (now (out .exit)) ⌝ }
+{
+    if both_allowed(marks, numbers_at(words, x, first)) {
+        open_all(opened, kids);
+    }
+    write_range(out, marks, false, first, first + privileges_at(words, x));
+}
+
+// A choice that is not opened: it opens what can be replaced and replaced back, and allows what is reached.
+fn complete_choice(
+    words: &[u16],
+    marks: &[u8],
+    x: usize,
+    first: usize,
+    kids: &[u16],
+    opened: &mut [u8; 256],
+    out: &mut [u8],
+)
+    requires { ⌜ Visited (now words) (now marks) x first (now kids) (now opened) (now out) × (Opened (now words) (Allowed (now marks)) x → ⊥) × IsChoice (now words) x ⌝ }
+    ensures { λ _. ⌜ Done (now (words .entry)) (now (marks .entry)) x (now (opened .entry)) (now (out .entry)) (now (opened .exit)) (now (out .exit)) ⌝ }
+{
+    let n = numbers_at(words, x, first);
+    let square = reached(words, marks, x, kids, n);
+    open_cycles(opened, kids, &square);
+    write_choice(out, &square, n);
+}
+
+// Type x, whose parents are done.
+fn complete_type(
+    words: &[u16],
+    marks: &[u8],
+    x: usize,
+    first: usize,
+    kids: &[u16],
+    opened: &mut [u8; 256],
+    out: &mut [u8],
+)
+    requires { ⌜ Visited (now words) (now marks) x first (now kids) (now opened) (now out) ⌝ }
+    ensures { λ _. ⌜ Done (now (words .entry)) (now (marks .entry)) x (now (opened .entry)) (now (out .entry)) (now (opened .exit)) (now (out .exit)) ⌝ }
+{
+    if opened[x] == 1 {
+        complete_opened(words, marks, x, first, kids, opened, out);
+        return;
+    }
+    let rule = rule_at(words, x);
+    match rule {
+        Rule::Choice { first: _, count: _ } => complete_choice(
+            words,
+            marks,
+            x,
+            first,
+            kids,
+            opened,
+            out,
+        ),
+        Rule::Star { first: _, count: _ } => complete_star(
+            words,
+            marks,
+            x,
+            first,
+            kids,
+            opened,
+            out,
+        ),
+        Rule::Empty | Rule::Text | Rule::Sequence { first: _, count: _ } => {
+            write_range(out, marks, false, first, first + privileges_at(words, x))
+        }
+    }
+}
+
+// All types, each after its parents: the order in which each comes after its children, read backwards.
+pub fn complete_all(words: &[u16], marks: &[u8], out: &mut [u8])
+    requires { ⌜ Policy (now words) (now marks) × (privileges (now words) ≤ length (now out)) ⌝ }
+    ensures { λ _. ⌜ Filled (now (words .entry)) (now (marks .entry)) (now (out .entry)) (now (out .exit)) ⌝ }
+{
+    let order = bottom_up(words);
+    let firsts = first_privileges(words);
+    let mut opened = [0u8; 256];
+    let mut k = types(words);
+    while 0 < k {
+        k -= 1;
+        let x = order[k] as usize;
+        complete_type(
+            words,
+            marks,
+            x,
+            firsts[x] as usize,
+            children(words, x),
+            &mut opened,
+            out,
+        );
+    }
+}
