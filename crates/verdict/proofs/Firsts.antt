@@ -149,3 +149,18 @@ module _ (ws marks : List ℕ) where
   pub at-first : {x : ℕ} {b : Breach} → CleanBefore x → BreachAt ws marks x b → b .condition ≢ None → FirstBreach ws marks b
   at-first h (none e n) d = absurd (d (ap (λ (a : Breach). a .condition) e))
   at-first h (first g q f) d = first-found h g q f
+
+  -- what a verdict says, by its breach's condition
+  pub verdict-clean : {b : Breach} → Verdict ws marks b → b .condition ≡ None → Clean ws marks
+  verdict-clean (clean q e) k = q
+  verdict-clean {b} (broken f) k = absurd (subst (λ (d : Condition). BreachOf ws marks d b) k (f .breach))
+
+  pub verdict-broken : {b : Breach} → Verdict ws marks b → b .condition ≢ None → FirstBreach ws marks b
+  verdict-broken (clean q e) d = absurd (d (ap (λ (a : Breach). a .condition) e))
+  verdict-broken (broken f) d = f
+
+-- the tags of the conditions but None
+pub no-tag : (_≡_ {A = ℕ} 0 1) ⊎ (_≡_ {A = ℕ} 0 2) ⊎ (_≡_ {A = ℕ} 0 3) → ⊥
+no-tag (inl e) = omega arith
+no-tag (inr (inl e)) = omega arith
+no-tag (inr (inr e)) = omega arith

@@ -11,7 +11,7 @@ use Rattle.verdict.specs.Marks.{Fit, Unfit, length-off, mark-above, Mark
 
 module _ {first v : ℕ} {ms : List ℕ} where
   -- marks that are fit are not unfit
-  fit-not : {n p : ℕ} → Fit v ms → ¬ Unfit first v ms n p
+  pub fit-not : {n p : ℕ} → Fit v ms → ¬ Unfit first v ms n p
   fit-not f (length-off d e q) = d (f .size)
   fit-not f (mark-above s e l) = l .fails (f .legal _ (l .within))
 

@@ -65,7 +65,7 @@ fn is_broken(marks: &[u8], n: Numbering, square: &[u8; 256], i: usize, j: usize)
 }
 
 // The first such pair: the lowest i, then the lowest j.
-fn first_broken(marks: &[u8], n: Numbering, square: &[u8; 256]) -> Pair
+pub fn first_broken(marks: &[u8], n: Numbering, square: &[u8; 256]) -> Pair
     requires { ⌜ Small n ⌝ }
     ensures { λ r. ⌜ FirstPair (Broken (now (marks .entry)) n (now (square .entry))) (n .count) r ⌝ }
 {

@@ -2,7 +2,7 @@ use mathlib.Core.Logic.{_⊎_, inl, inr}
 use mathlib.Core.Logic.{inl, inr}
 -- The loop has passed no type with a breach. Assumes nothing.
 use borrow.Author.Needs.{needs}
-use Rattle.verdict.proofs.Firsts.{CleanBefore, clean-start, clean-more, clean-all, at-none, at-first}
+use Rattle.verdict.proofs.Firsts.{CleanBefore, clean-start, clean-more, clean-all, at-none, at-first, no-tag}
 use Rattle.verdict.specs.Breaches.{clean, broken}
 use Rattle.table.proofs.Facts.{facts}
 use Rattle.table.proofs.Privileges.{first-start, first-next, first-within}
@@ -24,12 +24,6 @@ abbrev μ-loop : tie.MeasureT-loop
 -- the loop stands at a type
 is-type : (c : tie.In-loop Inv-loop μ-loop) → c .before .loop .x < types (now (c .before .before .before .before .before .before .args .words))
 is-type c = omega (arith, c .loop-test .taken, c .before .before .types .ensures .is)
-
--- a breach that was found is of one of the three conditions
-no-tag : (_≡_ {A = ℕ} 0 1) ⊎ (_≡_ {A = ℕ} 0 2) ⊎ (_≡_ {A = ℕ} 0 3) → ⊥
-no-tag (inl e) = omega arith
-no-tag (inr (inl e)) = omega arith
-no-tag (inr (inr e)) = omega arith
 
 forbidden-lows-requires : tie.Need-forbidden-lows-requires Inv-loop μ-loop
 forbidden-lows-requires c κs = c .before .before .pre

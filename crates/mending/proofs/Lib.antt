@@ -1,0 +1,6 @@
+-- Laws of the definitions of specs/, a file for each notion; the layers above use those marked pub.
+pub mod Counting
+pub mod Mended
+pub mod Staying
+pub mod Answered
+pub mod Next

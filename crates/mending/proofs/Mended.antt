@@ -1,0 +1,137 @@
+-- What the mending rule gives: one outcome, clean, only 1 became 2, and its count is that of the changed marks. Assumes nothing.
+use Prim.Native.Nat.{ℕ, zero, suc, _+_, _≤_, _<_}
+use mathlib.Core.Path.{_≡_, refl, sym, ap, _∙_}
+use mathlib.Core.Logic.{_≢_, _⊎_, inl, inr}
+use mathlib.Core.List.{List}
+use native.Mathlib.Nat.{zero-add, add-zero, add-assoc}
+use native.Mathlib.Decide.{ℕ-discrete}
+use native.Mathlib.Omega.{arith}
+use lib.ListN.{length, getD, set, length-set, List·getD-eq-default}
+use Rattle.table.specs.Privilege.{privileges, replaceOf, delete, replace}
+use Rattle.table.proofs.Lists.{le-or-lt}
+use Rattle.table.proofs.Privileges.{edit-below}
+use Rattle.verdict.specs.Marks.{Allowed, Forbidden, Fit, Policy}
+use Rattle.verdict.specs.Conditions.{Clean}
+use Rattle.verdict.specs.Breaches.{IsBreach, BreachOf, FirstBreach}
+use Rattle.verdict.specs.declared.Breach.{Breach}
+use Rattle.verdict.specs.declared.Condition.{Condition}
+use Rattle.verdict.specs.declared.Condition.the-variants.{None, InsertDelete, Chain, Cycle}
+use Rattle.verdict.proofs.Firsts.{first-one, clean-none}
+use Rattle.mending.specs.Mends.{Leads, LowestLead, Takes, Mends, done, more}
+use Rattle.mending.specs.Proposals.{Kept, changes}
+use Rattle.mending.specs.Taking.{Follows, start, take}
+use Rattle.mending.proofs.Counting.{allowedIn, allowed-most, taken-here, taken-other, allowed-less, changes-more, changes-none}
+
+-- a set mark is one of the list's
+pub marked-within : (m : List ℕ) (p : ℕ) → getD m p 0 ≢ 0 → p < length m
+marked-within m p d = elim (le-or-lt (length m) p) [ inl l ↦ absurd (d (List·getD-eq-default m 0 l)) | inr l ↦ l ]
+
+module _ (ws m : List ℕ) where
+  lowest-lead-one : {x i j p q : ℕ} → LowestLead ws m x i j p → LowestLead ws m x i j q → p ≡ q
+  lowest-lead-one {x} {i} {j} {p} {q} a b = go (le-or-lt (a .k) (b .k)) (le-or-lt (b .k) (a .k))
+    where
+      go : (a .k ≤ b .k) ⊎ (b .k < a .k) → (b .k ≤ a .k) ⊎ (a .k < b .k) → p ≡ q
+      go (inl g) (inl h) = let e : a .k ≡ b .k = omega arith in a .is ∙ ap (replaceOf ws x i) e ∙ sym (b .is)
+      go (inl g) (inr h) = absurd (b .lowest (a .k) h (a .leads))
+      go (inr g) h = absurd (a .lowest (b .k) g (b .leads))
+
+  takes-one : (k : Condition) (b : Breach) (p q : ℕ) → Takes ws m k b p → Takes ws m k b q → p ≡ q
+  takes-one None b p q g h = absurd g
+  takes-one InsertDelete b p q g h = g ∙ sym h
+  takes-one Chain b p q g h = lowest-lead-one g h
+  takes-one Cycle b p q g h = lowest-lead-one g h
+
+  -- what is taken was allowed, and is a privilege of the breached type
+  takes-by : (k : Condition) (b : Breach) (p : ℕ) → BreachOf ws m k b → Takes ws m k b p → Allowed m p × (p < privileges ws)
+  takes-by None b p h g = absurd g
+  takes-by InsertDelete b p h g = (rw g (h .delete), rw g (edit-below ws (delete (b .element)) (h .star)))
+  takes-by Chain b p h g = let s = g .leads .step in (rw (g .is) (s .allowed), rw (g .is) (edit-below ws (replace (b .element) (b .i) (g .k)) (s .can)))
+  takes-by Cycle b p h g = let s = g .leads .step in (rw (g .is) (s .allowed), rw (g .is) (edit-below ws (replace (b .element) (b .i) (g .k)) (s .can)))
+
+  pub takes-allowed : (b : Breach) (p : ℕ) → IsBreach ws m b → Takes ws m (b .condition) b p → Allowed m p
+  takes-allowed b p h g = takes-by (b .condition) b p h g .0
+
+  pub takes-below : (b : Breach) (p : ℕ) → IsBreach ws m b → Takes ws m (b .condition) b p → p < privileges ws
+  takes-below b p h g = takes-by (b .condition) b p h g .1
+
+-- the rule has one outcome
+pub mends-one : {ws m n o : List ℕ} {c d : ℕ} → Mends ws m n c → Mends ws m o d → (n ≡ o) × (c ≡ d)
+mends-one (done q) (done r) = (refl, refl)
+mends-one {ws} {m} (done q) (more b p f g r) = absurd (clean-none ws m q b (f .breach))
+mends-one {ws} {m} (more b p f g r) (done q) = absurd (clean-none ws m q b (f .breach))
+mends-one {ws} {m} {n} {o} (more {c = c} b p f g r) (more {c = d} b′ p′ f′ g′ r′) =
+    let e : b ≡ b′ = first-one ws m f f′ in
+    let g″ : Takes ws m (b .condition) b p′ = rw (← e) at g′ in
+    let h : p ≡ p′ = takes-one ws m (b .condition) b p p′ g g″ in
+    let r″ : Mends ws (set m p 2) o d = rw (← h) at r′ in
+    let i = mends-one r r″ in
+    (i .0, ap suc (i .1))
+
+-- the mended policy passes
+pub mends-clean : {ws m n : List ℕ} {c : ℕ} → Mends ws m n c → Clean ws n
+mends-clean (done q) = q
+mends-clean (more b p f g r) = mends-clean r
+
+-- a clean policy is copied
+pub clean-mends : {ws m n : List ℕ} {c : ℕ} → Clean ws m → Mends ws m n c → (n ≡ m) × (c ≡ 0)
+clean-mends q r = mends-one r (done q)
+
+-- each mark is as it was, or went from 1 to 2
+pub record Lowered (m n : List ℕ) : Type 0 where
+  pub size : length n ≡ length m
+  pub each : (p : ℕ) → Kept m n p
+
+lower-step : (m n : List ℕ) (p : ℕ) → Allowed m p → Lowered (set m p 2) n → Lowered m n
+lower-step m n p a h = record { size = h .size ∙ length-set m p 2; each = λ q. go q (ℕ-discrete q p) (h .each q) }
+  where
+    low : p < length m
+    low = marked-within m p (omega arith)
+
+    go : (q : ℕ) → Dec (q ≡ p) → Kept (set m p 2) n q → Kept m n q
+    go q (no d) k = rw (← taken-other m p low q d) k
+    go q (yes e) (inl f) = inr (rw e a, f ∙ rw e (taken-here m p low))
+    go q (yes e) (inr f) = inr (rw e a, f .1)
+
+pub mends-lowered : {ws m n : List ℕ} {c : ℕ} → Mends ws m n c → Lowered m n
+mends-lowered (done q) = record { size = refl; each = λ p. inl refl }
+mends-lowered {ws} {m} {n} (more b p f g r) = lower-step m n p (takes-allowed ws m b p (f .breach) g) (mends-lowered r)
+
+-- its count is the number of marks changed
+pub mends-count : {ws m n : List ℕ} {c : ℕ} → Mends ws m n c → c ≡ changes m n (privileges ws)
+mends-count {ws} {m} (done q) = sym (changes-none m (privileges ws))
+mends-count {ws} {m} {n} (more b p f g r) =
+    let a : Allowed m p = takes-allowed ws m b p (f .breach) g in
+    let low = marked-within m p (omega arith) in
+    let l = mends-lowered r in
+    let e : Forbidden n p = elim (l .each p) [ inl h ↦ h ∙ taken-here m p low | inr h ↦ h .1 ] in
+    omega (arith, mends-count r, changes-more m p low n a e (privileges ws) (takes-below ws m b p (f .breach) g))
+
+-- and never more than were allowed at the start
+pub mends-bound : {ws m n : List ℕ} {c : ℕ} → Mends ws m n c → c + allowedIn n (privileges ws) ≡ allowedIn m (privileges ws)
+mends-bound (done q) = omega arith
+mends-bound {ws} {m} (more b p f g r) =
+    let a : Allowed m p = takes-allowed ws m b p (f .breach) g in
+    omega (arith, mends-bound r, allowed-less m p (marked-within m p (omega arith)) a (privileges ws) (takes-below ws m b p (f .breach) g))
+
+add-suc-one : (c d : ℕ) → c + 1 + d ≡ c + suc d
+add-suc-one c d = omega arith
+
+-- following the rule, and then being clean, is mending
+follows-mends : {ws m n o : List ℕ} {c d : ℕ} → Follows ws m n c → Mends ws n o d → Mends ws m o (c + d)
+follows-mends {ws} {m} {o = o} {d = d} start r = rw (zero-add d) r
+follows-mends {ws} {m} {o = o} {d = d} (take {c = c} b p f g t) r = let s = follows-mends f (more b p g t r) in rw (add-suc-one c d) s
+
+pub follows-done : {ws m n : List ℕ} {c : ℕ} → Follows ws m n c → Clean ws n → Mends ws m n c
+follows-done {c = c} f q = rw (add-zero c) at (follows-mends f (done q))
+
+-- one who follows it twice has followed it
+pub follows-trans : {ws m n o : List ℕ} {c d : ℕ} → Follows ws m n c → Follows ws n o d → Follows ws m o (c + d)
+follows-trans {c = c} f start = rw (add-zero c) f
+follows-trans {c = c} f (take {c = d} b p g h t) = rw (← add-assoc c d 1) (take b p (follows-trans f g) h t)
+
+-- the count so far is at most the marks allowed at the start
+pub follows-bound : {ws m n : List ℕ} {c : ℕ} → Follows ws m n c → c + allowedIn n (privileges ws) ≡ allowedIn m (privileges ws)
+follows-bound start = omega arith
+follows-bound {ws} {m} (take {n = n} b p f g t) =
+    let a : Allowed n p = takes-allowed ws n b p (g .breach) t in
+    omega (arith, follows-bound f, allowed-less n p (marked-within n p (omega arith)) a (privileges ws) (takes-below ws n b p (g .breach) t))

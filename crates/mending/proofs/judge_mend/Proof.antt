@@ -1,0 +1,124 @@
+-- The checks in their order; then the proposed policy gets its verdict. Assumes nothing.
+use Rattle.mending.specs.Answers.{AllKept, refused, unfit, changed, broken, accepted}
+use Rattle.mending.specs.Proposals.{changes}
+use Rattle.verdict.proofs.Firsts.{verdict-clean, verdict-broken, no-tag}
+use Rattle.verdict.proofs.Policies.{policy-refused, policy-fits, marks-refused, marks-fit}
+use Rattle.verdict.specs.Answers.{done}
+use Rattle.verdict.specs.Marks.{Fit, Policy}
+use Rattle.table.specs.Privilege.{privileges}
+use denote.Ref.{now}
+use native.Mathlib.Omega.{arith}
+use mathlib.Core.Path.{_≡_, refl, ap, _∙_}
+use Prim.Native.Nat.{ℕ}
+use borrow.Author.Needs.{needs}
+use Rattle.mending.proofs.judge_mend.Statement.{statement}
+use Rattle.mending.proofs.judge_mend.Tie as tie
+use Rattle.mending.proofs.judge_mend.Reads as reads
+use Rattle.mending.proofs.judge_mend.Lts as lts
+use Rattle.mending.proofs.done_with.Reads as done-with-reads
+use Rattle.mending.proofs.proposal.count_changes.Reads as count-changes-reads
+use Rattle.mending.proofs.proposal.lowest_change.Reads as lowest-change-reads
+use Rattle.verdict.proofs.breaches.first_breach.Reads as first-breach-reads
+use Rattle.verdict.proofs.marks.check_marks.Reads as check-marks-reads
+use Rattle.verdict.proofs.marks.check_policy.Reads as check-policy-reads
+use Rattle.verdict.proofs.refused.Reads as refused-reads
+
+-- past the first test there is a policy, past the second the proposed marks fit, past the third each is kept
+policy : (c : tie.Else1) → Policy (now (c .before .before .before .before .before .before .args .words)) (now (c .before .before .before .before .before .before .args .marks)) × (c .before .before .check-policy .result .place ≡ privileges (now (c .before .before .before .before .before .before .args .words)))
+policy c = policy-fits (c .if1 .left) (c .before .before .check-policy .ensures)
+
+fit : (c : tie.Else2) → Fit (privileges (now (c .before .before .before .before .before .before .before .before .before .args .words))) (now (c .before .before .before .before .before .before .before .before .before .args .proposed))
+fit c = rw (policy (c .before .before .before) .1) at (marks-fit (omega arith) (c .if2 .left) (c .before .before .check-marks .ensures))
+
+all-kept : (c : tie.After-enum-told) → AllKept (now (c .before .before .before .before .before .before .before .before .before .before .before .before .args .words)) (now (c .before .before .before .before .before .before .before .before .before .before .before .before .args .marks)) (now (c .before .before .before .before .before .before .before .before .before .before .before .before .args .proposed))
+all-kept c = rw (policy (c .before .before .before .before .before .before) .1) at (rw (c .enum-told .given .1) at (c .before .before .lowest-change .ensures))
+
+proposed-policy : (c : tie.After-enum-told) → Policy (now (c .before .before .before .before .before .before .before .before .before .before .before .before .args .words)) (now (c .before .before .before .before .before .before .before .before .before .before .before .before .args .proposed))
+proposed-policy c = record { accepted = policy (c .before .before .before .before .before .before) .0 .accepted; fit = fit (c .before .before .before) }
+
+check-policy-requires : tie.Need-check-policy-requires
+check-policy-requires c κs = search needs
+
+refused-requires : tie.Need-refused-requires
+refused-requires c κs = search needs
+
+returns : tie.Need-returns
+returns c = refused (policy-refused (c .before .if1 .taken) (c .before .before .before .check-policy .ensures)) (c .refused .ensures)
+
+check-marks-requires : tie.Need-check-marks-requires
+check-marks-requires c κs = search needs
+
+refused-requires-2 : tie.Need-refused-requires-2
+refused-requires-2 c κs = search needs
+
+returns-2 : tie.Need-returns-2
+returns-2 c =
+    let p = policy (c .before .before .before .before) in
+    unfit (p .0) (rw (p .1) at (marks-refused (c .before .if2 .taken) (c .before .before .before .check-marks .ensures))) (c .refused2 .ensures)
+
+lowest-change-requires : tie.Need-lowest-change-requires
+lowest-change-requires c κs = search needs
+
+enum-known-found : tie.Need-enum-known-found
+enum-known-found c = search needs
+
+refused-requires-3 : tie.Need-refused-requires-3
+refused-requires-3 c κs = search needs
+
+returns-3 : tie.Need-returns-3
+returns-3 c =
+    let read = c .before .before .before .before in
+    let p = policy (read .before .before .before .before) in
+    changed (p .0) (fit (read .before)) (rw (p .1) at (rw (c .before .before .found .given .1) at (read .lowest-change .ensures))) (c .refused3 .ensures)
+
+enum-told : tie.Need-enum-told
+enum-told c = search needs
+
+first-breach-requires : tie.Need-first-breach-requires
+first-breach-requires c κs = proposed-policy c
+
+enum-told-2 : tie.Need-enum-told-2
+enum-told-2 c = search needs
+
+count-changes-requires : tie.Need-count-changes-requires
+count-changes-requires c κs = search needs
+
+done-with-requires : tie.Need-done-with-requires
+done-with-requires c κs = search needs
+
+returns-4 : tie.Need-returns-4
+returns-4 c =
+    let first = c .before .before .before .before in
+    let kept = first .before in
+    let start = kept .before .before .before .before .before .before .before .before .before .before .before .before in
+    let p = policy (kept .before .before .before .before .before .before) in
+    accepted (p .0) (fit (kept .before .before .before)) (all-kept kept) (verdict-clean _ _ (first .first-breach .ensures) (c .before .before .enum-told2 .given .1))
+    (c .done-with .ensures ∙ ap done (c .before .count-changes .ensures ∙ ap (changes (now (start .args .marks)) (now (start .args .proposed))) (p .1)))
+
+returns-5 : tie.Need-returns-5
+returns-5 c =
+    let kept = c .before .before in
+    let p = policy (kept .before .before .before .before .before .before) in
+    broken (p .0) (fit (kept .before .before .before)) (all-kept kept) (verdict-broken _ _ (c .before .first-breach .ensures) (λ e. no-tag (rw e at (c .match2 .keys2)))) refl
+
+pub judge-mend-spec : {M : Type 1} → statement M
+judge-mend-spec =
+    tie.close
+    (tie.spec
+    check-policy-requires
+    refused-requires
+    returns
+    check-marks-requires
+    refused-requires-2
+    returns-2
+    lowest-change-requires
+    enum-known-found
+    refused-requires-3
+    returns-3
+    enum-told
+    first-breach-requires
+    enum-told-2
+    count-changes-requires
+    done-with-requires
+    returns-4
+    returns-5)

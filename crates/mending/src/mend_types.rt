@@ -1,0 +1,115 @@
+// Mending type by type, in one ascending pass, each until it has no breach. Contracts cite specs/Taking and specs/Mends.
+ghost use mathlib.Core.Path.{_≡_};
+ghost use Prim.Native.Nat.{_≤_, _<_};
+ghost use lib.ListN.{length};
+ghost use Rattle.table.specs.Words.{types};
+ghost use Rattle.table.specs.Rule.{IsChoice, IsStar};
+ghost use Rattle.table.specs.Privilege.{firstPrivilege, privileges};
+ghost use Rattle.verdict.specs.Marks.{Policy};
+ghost use Rattle.mending.specs.Mends.{Mends};
+ghost use Rattle.mending.specs.Taking.{Spoilt, CleanUpTo, Visited, Cleaned};
+use super::taking::next_taken;
+use table::Found;
+use table::privilege::Numbering;
+use table::privilege::deletion;
+use table::privilege::insertion;
+use table::privilege::numbers_at;
+use table::privilege::privileges_at;
+use table::rule::Rule;
+use table::rule::children;
+use table::rule::rule_at;
+use table::words::types;
+use table::words::word_at;
+use verdict::below::forbidden_lows;
+use verdict::marks::mark_at;
+use verdict::reach::reached;
+
+// Mends the star x: where its insert and delete are allowed and something is forbidden below its child, the delete is forbidden.
+fn mend_star(words: &[u16], m: &mut [u8], low: &[u16; 256], x: usize, kids: &[u16], n: Numbering) -> usize
+    requires { ⌜ Visited (now words) (now m) (now low) x (now kids) n × IsStar (now words) x ⌝ }
+    ensures { λ r. ⌜ Cleaned (now (words .entry)) (now (low .entry)) x (now (m .entry)) (now (m .exit)) r ⌝ }
+{
+    let delete = deletion(n);
+    if mark_at(m, insertion(n)) != 1 {
+        return 0;
+    }
+    if mark_at(m, delete) != 1 {
+        return 0;
+    }
+    if low[word_at(kids, 0)] == 65535 {
+        return 0;
+    }
+    m[delete] = 2;
+    1
+}
+
+// Mends the choice x: what the rule takes is forbidden, again and again until it has no breach.
+fn mend_choice(words: &[u16], m: &mut [u8], low: &[u16; 256], x: usize, kids: &[u16], n: Numbering) -> usize
+    requires { ⌜ Visited (now words) (now m) (now low) x (now kids) n × IsChoice (now words) x ⌝ }
+    ensures { λ r. ⌜ Cleaned (now (words .entry)) (now (low .entry)) x (now (m .entry)) (now (m .exit)) r ⌝ }
+{
+    let mut count = 0;
+    loop {
+        let square = reached(words, m, x, kids, n);
+        let taken = next_taken(words, m, low, x, kids, n, &square);
+        let Found::At(p) = taken else {
+            return count;
+        };
+        m[p] = 2;
+        count += 1;
+    }
+}
+
+// Mends type x, whose first privilege is given.
+fn mend_type(words: &[u16], m: &mut [u8], low: &[u16; 256], x: usize, first: usize) -> usize
+    requires { ⌜ Policy (now words) (now m) × Spoilt (now words) (now m) (now low) × (x < types (now words)) × CleanUpTo (now words) (now m) x × (first ≡ firstPrivilege (now words) x) ⌝ }
+    ensures { λ r. ⌜ Cleaned (now (words .entry)) (now (low .entry)) x (now (m .entry)) (now (m .exit)) r ⌝ }
+{
+    let rule = rule_at(words, x);
+    match rule {
+        Rule::Empty => 0,
+        Rule::Text => 0,
+        Rule::Sequence { first: _, count: _ } => 0,
+        Rule::Choice { first: _, count: _ } => mend_choice(words, m, low, x, children(words, x), numbers_at(words, x, first)),
+        Rule::Star { first: _, count: _ } => mend_star(words, m, low, x, children(words, x), numbers_at(words, x, first)),
+    }
+}
+
+// Mends a policy in place, and counts the marks taken.
+fn mend_all(words: &[u16], m: &mut [u8]) -> usize
+    requires { ⌜ Policy (now words) (now m) ⌝ }
+    ensures { λ r. ⌜ Mends (now (words .entry)) (now (m .entry)) (now (m .exit)) r ⌝ }
+{
+    let low = forbidden_lows(words, m);
+    let e = types(words);
+    let mut count = 0;
+    let mut first = 0;
+    let mut x = 0;
+    while x < e {
+        count += mend_type(words, m, &low, x, first);
+        first += privileges_at(words, x);
+        x += 1;
+    }
+    count
+}
+
+// Copies the marks, all of them.
+fn copy(marks: &[u8], m: &mut [u8])
+    requires { ⌜ length (now m) ≡ length (now marks) ⌝ }
+    ensures { λ _. ⌜ now (m .exit) ≡ now (marks .entry) ⌝ }
+{
+    let mut p = 0;
+    while p < marks.len() {
+        m[p] = marks[p];
+        p += 1;
+    }
+}
+
+// Mends a copy of the marks of a policy.
+pub fn mend_copy(words: &[u16], marks: &[u8], m: &mut [u8]) -> usize
+    requires { ⌜ Policy (now words) (now marks) × (length (now m) ≡ length (now marks)) ⌝ }
+    ensures { λ r. ⌜ Mends (now (words .entry)) (now (marks .entry)) (now (m .exit)) r ⌝ }
+{
+    copy(marks, m);
+    mend_all(words, m)
+}
