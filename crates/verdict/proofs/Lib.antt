@@ -8,3 +8,5 @@ pub mod SquareLaws
 pub mod Forced
 pub mod Judged
 pub mod Walks
+pub mod Boxes
+pub mod PolicyTests
