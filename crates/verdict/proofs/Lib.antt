@@ -10,3 +10,4 @@ pub mod Judged
 pub mod Walks
 pub mod Boxes
 pub mod PolicyTests
+pub mod PolicySamples
