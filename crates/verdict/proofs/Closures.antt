@@ -1,4 +1,4 @@
--- One or more steps: they join, and Warshall's test tells them. Assumes nothing.
+-- One or more steps: they join, and those over positions below a number, told position by position, are all in the end. Assumes nothing.
 use Prim.Native.Nat.{ℕ, zero, suc, _<_}
 use mathlib.Core.Path.{_≡_}
 use mathlib.Core.Logic.{_⊎_, inl, inr}
@@ -59,16 +59,3 @@ module _ (R : ℕ → ℕ → Type 0) where
   via-more k i j false true true v w x = inr (w, x)
   via-more k i j false true false v w x = λ y. elim y [ inl z ↦ v z | inr z ↦ x (z .1) ]
   via-more k i j false false c v w x = λ y. elim y [ inl z ↦ v z | inr z ↦ w (z .0) ]
-
--- Warshall's test
-abbrev pub warshall : (ℕ → ℕ → Bool) → ℕ → ℕ → ℕ → Bool
-warshall s zero i j = s i j
-warshall s (suc k) i j = let r = warshall s k i k && warshall s k k j in warshall s k i j || r
-
-module _ (R : ℕ → ℕ → Type 0) (s : ℕ → ℕ → Bool) (told : (i j : ℕ) → Tells (R i j) (s i j)) where
-  warshall-via : (k i j : ℕ) → Tells (Via R k i j) (warshall s k i j)
-  warshall-via zero i j = told i j
-  warshall-via (suc k) i j = via-more R k i j (warshall s k i j) (warshall s k i k) (warshall s k k j) (warshall-via k i j) (warshall-via k i k) (warshall-via k k j)
-
-  pub warshall-plus : (n : ℕ) → ((i j : ℕ) → R i j → j < n) → (i j : ℕ) → Tells (Plus R i j) (warshall s n i j)
-  warshall-plus n low i j = via-all R n low i j (warshall s n i j) (warshall-via n i j)

@@ -41,11 +41,10 @@ lex-tri (a ∷ s) (b ∷ t) h = go (le-or-lt a b) (le-or-lt b a) (lex-tri s t (o
     go (inl g) (inl l) (inr (inr k)) = let e : a ≡ b = omega arith in inr (inr (rw e (same k)))
 
 -- a breach is known by its key
-conditionOf : ℕ → Condition
+abbrev pub conditionOf : ℕ → Condition
 conditionOf n = getD (None ∷ InsertDelete ∷ Chain ∷ Cycle ∷ []) n None
 
-condition-of : (c : Condition) → conditionOf (conditionNumber c) ≡ c
-unfolding conditionOf
+pub condition-of : (c : Condition) → conditionOf (conditionNumber c) ≡ c
 condition-of None = refl
 condition-of InsertDelete = refl
 condition-of Chain = refl

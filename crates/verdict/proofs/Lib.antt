@@ -1,4 +1,4 @@
--- Laws of the definitions of specs/, a file for each notion; the layers above use those marked pub.
+-- Laws of the definitions of specs/, a file for each notion, and tests that compute them; the layers above use what is marked pub.
 pub mod Lows
 pub mod Policies
 pub mod Firsts
@@ -7,3 +7,7 @@ pub mod Closures
 pub mod SquareLaws
 pub mod Forced
 pub mod Judged
+pub mod Walks
+pub mod Boxes
+pub mod PolicyTests
+pub mod PolicySamples

@@ -1,0 +1,209 @@
+-- The verdict on sample policies: S1 to S9 of document 01, a chain of four kinds, and the policies of documents 000 and 003. One table of
+-- rows, and one statement, proved by one computation. Every expected answer was worked out by hand from the documents. Assumes nothing.
+use Prim.Native.Nat.{ℕ, zero, suc, _/_, _%_}
+use mathlib.Core.Path.{_≡_, refl, subst}
+use mathlib.Core.Bool.{Bool, true, _&&_}
+use mathlib.Core.List.{List, [], _∷_, map}
+use lib.Dec.{T}
+use lib.ListN.{getD}
+use Rattle.table.specs.Sum.{sumBelow}
+use Rattle.table.specs.Rule.{ruleOf, ruleAt, childrenAt, countOf}
+use Rattle.table.specs.Privilege.{privilegesAt, firstPrivilege, privileges, replaceOf}
+use Rattle.table.proofs.Test.{Test, and-out}
+use Rattle.verdict.specs.Marks.{Policy}
+use Rattle.verdict.specs.Breaches.{noBreach, IsBreach, Verdict}
+use Rattle.verdict.specs.declared.Breach.{Breach}
+use Rattle.verdict.specs.declared.Condition.{Condition}
+use Rattle.verdict.specs.declared.Condition.the-variants.{InsertDelete, Chain, Cycle}
+use Rattle.verdict.proofs.PolicyTests.{policy, breach, verdictBy, verdict-by}
+
+pub record Row : Type 0 where
+  pub words : List ℕ
+  pub marks : List ℕ
+  pub breach : Breach
+
+-- the last k digits of a number, before others
+abbrev digits : ℕ → ℕ → List ℕ → List ℕ
+digits zero n s = s
+digits (suc k) n s = digits k (n / 10) (n % 10 ∷ s)
+
+-- the marks are given as V digits, V being word 7
+abbrev row : List ℕ → ℕ → Breach → Row
+row words n b = record { words = words; marks = digits (getD words 7 0) n []; breach = b }
+
+-- a breach: condition, type, i, j, privilege
+abbrev at : Condition → ℕ → ℕ → ℕ → ℕ → Breach
+at c x i j p = record { condition = c; element = x; i = i; j = j; privilege = p }
+
+-- the sample schema of document 01
+abbrev sample : List ℕ
+sample =
+    1 ∷ 39 ∷ 8 ∷ 0 ∷ 8 ∷ 7 ∷ 32 ∷ 11
+    ∷ 4 ∷ 1 ∷ 0 ∷ 2 ∷ 3 ∷ 1 ∷ 1 ∷ 0 ∷ 4 ∷ 1 ∷ 0 ∷ 4 ∷ 3 ∷ 3 ∷ 4 ∷ 0 ∷ 0 ∷ 7 ∷ 0 ∷ 0 ∷ 7 ∷ 1 ∷ 0 ∷ 7
+    ∷ 1 ∷ 2 ∷ 3 ∷ 4 ∷ 5 ∷ 6 ∷ 7 ∷ []
+
+-- a lone empty type
+abbrev lone : List ℕ
+lone = 1 ∷ 11 ∷ 1 ∷ 0 ∷ 8 ∷ 0 ∷ 11 ∷ 0 ∷ 0 ∷ 0 ∷ 0 ∷ []
+
+-- a choice of four empty types: replacing 0 by 1, 2, 3 is privilege 0, 1, 2; 1 by 0, 2, 3 is 3, 4, 5; 2 by 0, 1, 3 is 6, 7, 8; 3 is 9, 10, 11
+abbrev four : List ℕ
+four =
+    1 ∷ 27 ∷ 5 ∷ 0 ∷ 8 ∷ 4 ∷ 23 ∷ 12
+    ∷ 3 ∷ 4 ∷ 0 ∷ 0 ∷ 0 ∷ 4 ∷ 0 ∷ 0 ∷ 4 ∷ 0 ∷ 0 ∷ 4 ∷ 0 ∷ 0 ∷ 4
+    ∷ 1 ∷ 2 ∷ 3 ∷ 4 ∷ []
+
+-- document 000, figure 1 and example 1, whose rules are all of our forms; the shared types F and G stand once each. Types, rules, privileges:
+--   0 R = A + B + J + K   0 to 11: A by B, J, K; B by A, J, K; J by A, B, K; K by A, B, J
+--   1 A = C, D            none
+--   2 B = E*              12, 13
+--   3 J = G*              14, 15
+--   4 K = str             16
+--   5 C = F*              17, 18
+--   6 D = F*              19, 20
+--   7 E = G*              21, 22
+--   8 F = str             23
+--   9 G = H + I           24: H by I; 25: I by H
+--   10 H = str            26
+--   11 I = str            27
+abbrev figure : List ℕ
+figure =
+    1 ∷ 57 ∷ 12 ∷ 0 ∷ 8 ∷ 13 ∷ 44 ∷ 28
+    ∷ 3 ∷ 4 ∷ 0 ∷ 2 ∷ 2 ∷ 4 ∷ 4 ∷ 1 ∷ 6 ∷ 4 ∷ 1 ∷ 7 ∷ 1 ∷ 0 ∷ 8 ∷ 4 ∷ 1 ∷ 8
+    ∷ 4 ∷ 1 ∷ 9 ∷ 4 ∷ 1 ∷ 10 ∷ 1 ∷ 0 ∷ 11 ∷ 3 ∷ 2 ∷ 11 ∷ 1 ∷ 0 ∷ 13 ∷ 1 ∷ 0 ∷ 13
+    ∷ 1 ∷ 2 ∷ 3 ∷ 4 ∷ 5 ∷ 6 ∷ 7 ∷ 9 ∷ 8 ∷ 8 ∷ 9 ∷ 10 ∷ 11 ∷ []
+
+-- document 003, figure 1, whose rules are all of our forms. Types, rules, privileges:
+--   0 hospital = patient*                   0, 1
+--   1 patient = name, treatments            none
+--   2 name = str                            2
+--   3 treatments = treatment*               3, 4
+--   4 treatment = drug, diagnosis, date     none
+--   5 drug = placebo | presDrug | OTC       5, 6: placebo by presDrug, OTC; 7, 8: presDrug by placebo, OTC; 9, 10: OTC by placebo, presDrug
+--   6 diagnosis = str                       11
+--   7 date = str                            12
+--   8 placebo, empty                        none
+--   9 presDrug = str                        13
+--   10 OTC = str                            14
+abbrev hospital : List ℕ
+hospital =
+    1 ∷ 51 ∷ 11 ∷ 0 ∷ 8 ∷ 10 ∷ 41 ∷ 15
+    ∷ 4 ∷ 1 ∷ 0 ∷ 2 ∷ 2 ∷ 1 ∷ 1 ∷ 0 ∷ 3 ∷ 4 ∷ 1 ∷ 3 ∷ 2 ∷ 3 ∷ 4 ∷ 3 ∷ 3 ∷ 7
+    ∷ 1 ∷ 0 ∷ 10 ∷ 1 ∷ 0 ∷ 10 ∷ 0 ∷ 0 ∷ 10 ∷ 1 ∷ 0 ∷ 10 ∷ 1 ∷ 0 ∷ 10
+    ∷ 1 ∷ 2 ∷ 3 ∷ 4 ∷ 5 ∷ 6 ∷ 7 ∷ 8 ∷ 9 ∷ 10 ∷ []
+
+abbrev pub rows : List Row
+rows =
+    -- S1: nothing is marked
+    row sample 00000000000 noBreach
+    -- S2: a layer may be inserted and deleted, and its range must not be changed
+    ∷ row sample 11020000000 (at InsertDelete 0 0 0 3)
+    -- S3: nothing is forbidden
+    ∷ row sample 11000000000 noBreach
+    -- S4: a layer may be inserted only
+    ∷ row sample 10020000000 noBreach
+    -- S5: draft by held and held by final are allowed, draft by final is forbidden
+    ∷ row sample 00001201000 (at Chain 4 0 2 5)
+    -- S6: draft by final is unset
+    ∷ row sample 00001001000 noBreach
+    -- S7: held and final may replace each other, and the text of final itself must not be changed
+    ∷ row sample 00000001012 (at Cycle 4 2 2 10)
+    -- S8: that text is unset
+    ∷ row sample 00000001010 noBreach
+    -- S9: both S2 and S5, of which the lower type is first
+    ∷ row sample 11021201000 (at InsertDelete 0 0 0 3)
+    -- a table with no privilege
+    ∷ row lone 0 noBreach
+    -- a chain of four kinds: 0 by 1, 1 by 2 and 2 by 3 are allowed, 0 by 3 is forbidden, the shorter cuts are unset
+    ∷ row four 102_010_001_000 (at Chain 0 0 3 2)
+    -- document 000, examples 2 and 3: A by B, B by J, J by K, K by B and K by J are allowed at R, the insert and delete of every star, I by H
+    -- at G, and every text; all else is forbidden. R is the lowest type that is broken, chains come before cycles, and A by B is allowed: first
+    -- is A by J, over B
+    ∷ row figure 122_212_221_211_11_11_1_11_11_11_1_21_1_1 (at Chain 0 0 2 1)
+    -- example 8: B by J and J by K taken away, there is nothing left at R; at B the insert and delete of E remain, with H by I below E
+    ∷ row figure 122_222_222_211_11_11_1_11_11_11_1_21_1_1 (at InsertDelete 2 0 0 24)
+    -- example 5: the deletes of B, J and E taken away too, nothing is left; below C and D nothing is forbidden
+    ∷ row figure 122_222_222_211_12_12_1_11_11_12_1_21_1_1 noBreach
+    -- section 4.1: a partial policy that allows the insert and delete of E at B and denies the text of H has no consistent extension
+    ∷ row figure 000_000_000_000_11_00_0_00_00_00_0_00_2_0 (at InsertDelete 2 0 0 26)
+    -- document 003, table 1: a patient may be deleted and inserted; of what is forbidden below, the name has the lowest number (its I1)
+    ∷ row hospital 11_2_12_21_21_21_2_1_2_1 (at InsertDelete 0 0 0 2)
+    -- section 3.2: the delete of a patient forbidden, what is left at drug is first placebo by presDrug, over OTC (its I3)
+    ∷ row hospital 12_2_12_21_21_21_2_1_2_1 (at Chain 5 0 1 5)
+    -- the naive algorithm's first step there, placebo by OTC forbidden: the cycle of presDrug and OTC, with the text of presDrug (its I2)
+    ∷ row hospital 12_2_12_22_21_21_2_1_2_1 (at Cycle 5 1 1 13)
+    -- the repair of the text: the delete of a patient and OTC by presDrug forbidden
+    ∷ row hospital 12_2_12_21_21_22_2_1_2_1 noBreach
+    ∷ []
+
+-- each row has a property
+abbrev pub Each : (Row → Type 0) → List Row → Type 0
+Each P [] = Unit {0}
+Each P (r ∷ rs) = P r × Each P rs
+
+abbrev Right : Row → Type 0
+Right r = Verdict (r .words) (r .marks) (r .breach)
+
+-- a row with its verdict computed anew
+abbrev again : Row → Row
+again r = record { words = r .words; marks = r .marks; breach = verdictBy (r .words) (r .marks) }
+
+again-right : (rs : List Row) → Each Right (map again rs)
+again-right [] = tt
+again-right (r ∷ rs) = (verdict-by (r .words) (r .marks), again-right rs)
+
+computed : map again rows ≡ rows
+unfolding sumBelow ruleOf ruleAt childrenAt countOf privilegesAt firstPrivilege privileges replaceOf
+computed = refl
+
+pub samples : Each (λ r. Verdict (r .words) (r .marks) (r .breach)) rows
+samples = subst (Each Right) computed (again-right rows)
+
+-- a test of each row
+abbrev all : {P : Row → Type 0} → ((r : Row) → Test (P r)) → List Row → Bool
+all t [] = true
+all t (r ∷ rs) = let rest = all t rs in t r .run && rest
+
+each-by : {P : Row → Type 0} (t : (r : Row) → Test (P r)) (rs : List Row) → T (all t rs) → Each P rs
+each-by t [] h = tt
+each-by t (r ∷ rs) h = let b = and-out (t r .run) (all t rs) h in (t r .out (b .0), each-by t rs (b .1))
+
+-- the words of each row are a table, and its marks fit
+pub policies : Each (λ r. Policy (r .words) (r .marks)) rows
+unfolding sumBelow ruleOf ruleAt childrenAt countOf privilegesAt firstPrivilege privileges replaceOf
+policies = each-by (λ r. policy (r .words) (r .marks)) rows tt
+
+-- the breaches that the two papers name in their first policies
+abbrev pub named : List Row
+named =
+    -- document 000, example 3, condition 1: the insert and delete of G at E, with H by I forbidden below G
+    example (at InsertDelete 7 0 0 24)
+    -- condition 2: A by J, A by K and B by K are forbidden
+    ∷ example (at Chain 0 0 2 1)
+    ∷ example (at Chain 0 0 3 2)
+    ∷ example (at Chain 0 1 3 5)
+    -- condition 3: B and J are in cycles at R, with H by I forbidden below both
+    ∷ example (at Cycle 0 1 1 24)
+    ∷ example (at Cycle 0 2 2 24)
+    -- examples 4 and 5: B and J, as E
+    ∷ example (at InsertDelete 2 0 0 24)
+    ∷ example (at InsertDelete 3 0 0 24)
+    -- example 7: J by B, over K
+    ∷ example (at Chain 0 2 1 7)
+    -- document 003: I1, and the delete of a treatment in figure 4
+    ∷ table1 (at InsertDelete 0 0 0 2)
+    ∷ table1 (at InsertDelete 0 0 0 4)
+    -- I2 and I3
+    ∷ table1 (at Cycle 5 1 1 13)
+    ∷ table1 (at Chain 5 0 1 5)
+    ∷ []
+  where
+    example : Breach → Row
+    example b = row figure 122_212_221_211_11_11_1_11_11_11_1_21_1_1 b
+
+    table1 : Breach → Row
+    table1 b = row hospital 11_2_12_21_21_21_2_1_2_1 b
+
+pub breaches : Each (λ r. IsBreach (r .words) (r .marks) (r .breach)) named
+unfolding sumBelow ruleOf ruleAt childrenAt countOf privilegesAt firstPrivilege privileges replaceOf
+breaches = each-by (λ r. breach (r .words) (r .marks) (r .breach)) named tt
