@@ -7,9 +7,9 @@ use native.Mathlib.Nat.{zero-add, add-zero, add-assoc}
 use native.Mathlib.Decide.{ℕ-discrete}
 use native.Mathlib.Omega.{arith}
 use lib.ListN.{length, getD, set, length-set, List·getD-eq-default}
-use Rattle.table.specs.Privilege.{privileges, replaceOf, delete, replace}
+use Rattle.table.specs.Privilege.{privileges, Belongs, replaceOf, delete, replace}
 use Rattle.table.proofs.Lists.{le-or-lt}
-use Rattle.table.proofs.Privileges.{edit-below}
+use Rattle.table.proofs.Privileges.{belongs-below, edit-belongs}
 use Rattle.verdict.specs.Marks.{Allowed, Forbidden, Fit, Policy}
 use Rattle.verdict.specs.Conditions.{Clean}
 use Rattle.verdict.specs.Breaches.{IsBreach, BreachOf, FirstBreach}
@@ -42,17 +42,20 @@ module _ (ws m : List ℕ) where
   takes-one Cycle b p q g h = lowest-lead-one g h
 
   -- what is taken was allowed, and is a privilege of the breached type
-  takes-by : (k : Condition) (b : Breach) (p : ℕ) → BreachOf ws m k b → Takes ws m k b p → Allowed m p × (p < privileges ws)
+  takes-by : (k : Condition) (b : Breach) (p : ℕ) → BreachOf ws m k b → Takes ws m k b p → Allowed m p × Belongs ws p (b .element)
   takes-by None b p h g = absurd g
-  takes-by InsertDelete b p h g = (rw g (h .delete), rw g (edit-below ws (delete (b .element)) (h .star)))
-  takes-by Chain b p h g = let s = g .leads .step in (rw (g .is) (s .allowed), rw (g .is) (edit-below ws (replace (b .element) (b .i) (g .k)) (s .can)))
-  takes-by Cycle b p h g = let s = g .leads .step in (rw (g .is) (s .allowed), rw (g .is) (edit-below ws (replace (b .element) (b .i) (g .k)) (s .can)))
+  takes-by InsertDelete b p h g = (rw g (h .delete), rw g (edit-belongs ws (delete (b .element)) (h .star)))
+  takes-by Chain b p h g = let s = g .leads .step in (rw (g .is) (s .allowed), rw (g .is) (edit-belongs ws (replace (b .element) (b .i) (g .k)) (s .can)))
+  takes-by Cycle b p h g = let s = g .leads .step in (rw (g .is) (s .allowed), rw (g .is) (edit-belongs ws (replace (b .element) (b .i) (g .k)) (s .can)))
 
   pub takes-allowed : (b : Breach) (p : ℕ) → IsBreach ws m b → Takes ws m (b .condition) b p → Allowed m p
   takes-allowed b p h g = takes-by (b .condition) b p h g .0
 
+  pub takes-own : (b : Breach) (p : ℕ) → IsBreach ws m b → Takes ws m (b .condition) b p → Belongs ws p (b .element)
+  takes-own b p h g = takes-by (b .condition) b p h g .1
+
   pub takes-below : (b : Breach) (p : ℕ) → IsBreach ws m b → Takes ws m (b .condition) b p → p < privileges ws
-  takes-below b p h g = takes-by (b .condition) b p h g .1
+  takes-below b p h g = belongs-below (takes-own b p h g)
 
 -- the rule has one outcome
 pub mends-one : {ws m n o : List ℕ} {c d : ℕ} → Mends ws m n c → Mends ws m o d → (n ≡ o) × (c ≡ d)

@@ -2,11 +2,12 @@
 -- privilege of x leaves it told which types have something forbidden below them, and no type before x comes to have a breach. Assumes
 -- nothing.
 use Prim.Native.Nat.{ℕ, _+_, _≤_, _<_}
-use mathlib.Core.Path.{_≡_, refl, sym, ap, _∙_}
+use mathlib.Core.Path.{_≡_, refl, sym, ap, subst, _∙_}
 use mathlib.Core.Logic.{_≢_, _⊎_, inl, inr}
 use mathlib.Core.List.{List}
 use native.Mathlib.Decide.{ℕ-discrete}
 use native.Mathlib.Omega.{arith}
+use borrow.Author.Tests.{ltb-true, ltb-false}
 use lib.Dec.{ltb}
 use lib.ListN.{length, getD, set, length-set}
 use Rattle.table.specs.Words.{types}
@@ -15,18 +16,20 @@ use Rattle.table.specs.Privilege.{Belongs, privileges, insertOf, deleteOf, repl
 use Rattle.table.specs.Check.{Accepted}
 use Rattle.table.proofs.Privileges.{belongs-one, belongs-below, edit-belongs}
 use Rattle.table.proofs.Facts.{facts, child-at}
-use Rattle.table.proofs.Lowest.{tells-as}
+use Rattle.table.proofs.Lowest.{tells-as, tells-by}
 use Rattle.verdict.specs.Marks.{Allowed, Forbidden, Policy}
-use Rattle.verdict.specs.Below.{Below, here, down, PrivilegeBelow, ForbiddenBelow}
-use Rattle.verdict.specs.Breaches.{IsBreach, InsertDeleteBreach, ChainBreach, CycleBreach}
+use Rattle.verdict.specs.Below.{Below, here, down, PrivilegeBelow, ForbiddenBelow, Lows}
+use Rattle.verdict.specs.Breaches.{IsBreach, FirstBreach, InsertDeleteBreach, ChainBreach, CycleBreach}
 use Rattle.verdict.specs.declared.Breach.{Breach}
 use Rattle.verdict.specs.declared.Condition.the-variants.{InsertDelete, Chain, Cycle}
 use Rattle.verdict.proofs.Forced.{reached-mono, reached-replaceable}
 use Rattle.verdict.proofs.Breached.{reached-from}
-use Rattle.verdict.proofs.Firsts.{breach-cases}
-use Rattle.mending.specs.Taking.{Spoilt, CleanUpTo}
-use Rattle.mending.proofs.Counting.{taken-here, taken-other}
-use Rattle.mending.proofs.Mended.{marked-within}
+use Rattle.verdict.proofs.Lows.{below-small}
+use Rattle.verdict.proofs.Firsts.{breach-cases, clean-all}
+use Rattle.mending.specs.Mends.{Takes, Mends}
+use Rattle.mending.specs.Taking.{Spoilt, CleanUpTo, Cleaned, Follows, take}
+use Rattle.mending.proofs.Counting.{allowedIn, allowed-most, allowed-less, taken-here, taken-other}
+use Rattle.mending.proofs.Mended.{marked-within, takes-allowed, takes-own, follows-bound, follows-trans, follows-done}
 
 below-trans : {ws : List ℕ} {x y z : ℕ} → Below ws x y → Below ws y z → Below ws x z
 below-trans b here = b
@@ -46,14 +49,17 @@ breach-spoils {ws} {m} a b h = go (breach-cases ws m b h)
     go : ((b .condition ≡ InsertDelete) × InsertDeleteBreach ws m b) ⊎ ((b .condition ≡ Chain) × ChainBreach ws m b) ⊎ ((b .condition ≡ Cycle) × CycleBreach ws m b)
         → (q : ℕ) × ForbiddenBelow ws m (b .element) q
     go (inl (k, g)) = (b .privilege, forbidden-up (record { below = g .below; forbidden = g .forbidden }) (child-of a (g .star .type) (omega (arith, facts a .star-one (b .element) (g .star)))))
-    go (inr (inl (k, g))) = (b .privilege, record {
-      below = record {
-        type = b .element;
-        belongs = rw (g .is) (edit-belongs ws (replace (b .element) (b .i) (b .j)) (reached-replaceable (g .choice) (g .reached) (g .apart)));
-        below = here;
-      };
-      forbidden = g .forbidden;
-    })
+    go (inr (inl (k, g))) = (
+      b .privilege,
+      record {
+        below = record {
+          type = b .element;
+          belongs = rw (g .is) (edit-belongs ws (replace (b .element) (b .i) (b .j)) (reached-replaceable (g .choice) (g .reached) (g .apart)));
+          below = here;
+        };
+        forbidden = g .forbidden;
+      },
+    )
     go (inr (inr (k, g))) = (b .privilege, forbidden-up (record { below = g .below; forbidden = g .forbidden }) (child-of a (g .choice .type) (reached-from (g .reached))))
 
 -- one allowed privilege p of x is forbidden, with something below x forbidden already
@@ -95,8 +101,7 @@ module _ {ws m : List ℕ} {x p q₀ : ℕ} (own : Belongs ws p x) (a : Allowed 
         go : ((c .condition ≡ InsertDelete) × InsertDeleteBreach ws (set m p 2) c) ⊎ ((c .condition ≡ Chain) × ChainBreach ws (set m p 2) c)
             ⊎ ((c .condition ≡ Cycle) × CycleBreach ws (set m p 2) c) → (d : Breach) × IsBreach ws m d × (d .element ≡ c .element)
         go (inl (k, g)) =
-            let s = spoilt-before (childAt ws (c .element) 0) (c .privilege, record { below = g .below; forbidden = g .forbidden }) in
-            (
+            let s = spoilt-before (childAt ws (c .element) 0) (c .privilege, record { below = g .below; forbidden = g .forbidden }) in (
               record { condition = InsertDelete; element = c .element; i = 0; j = 0; privilege = s .0 },
               record {
                 star = g .star;
@@ -110,8 +115,7 @@ module _ {ws m : List ℕ} {x p q₀ : ℕ} (own : Belongs ws p x) (a : Allowed 
               refl,
             )
         go (inr (inl (k, g))) =
-            let other : c .privilege ≢ p = λ e. d (belongs-one (rw (← e, g .is) (edit-belongs ws (replace (c .element) (c .i) (c .j)) (reached-replaceable (g .choice) (g .reached) (g .apart)))) own) in
-            (
+            let other : c .privilege ≢ p = λ e. d (belongs-one (rw (← e, g .is) (edit-belongs ws (replace (c .element) (c .i) (c .j)) (reached-replaceable (g .choice) (g .reached) (g .apart)))) own) in (
               record { condition = Chain; element = c .element; i = c .i; j = c .j; privilege = c .privilege },
               record {
                 choice = g .choice;
@@ -123,8 +127,7 @@ module _ {ws m : List ℕ} {x p q₀ : ℕ} (own : Belongs ws p x) (a : Allowed 
               refl,
             )
         go (inr (inr (k, g))) =
-            let s = spoilt-before (childAt ws (c .element) (c .i)) (c .privilege, record { below = g .below; forbidden = g .forbidden }) in
-            (
+            let s = spoilt-before (childAt ws (c .element) (c .i)) (c .privilege, record { below = g .below; forbidden = g .forbidden }) in (
               record { condition = Cycle; element = c .element; i = c .i; j = c .i; privilege = s .0 },
               record {
                 choice = g .choice;
@@ -157,3 +160,55 @@ policy-stays {ws} {m} p pol a = record {
     go : (q : ℕ) → q < privileges ws → Dec (q ≡ p) → getD (set m p 2) q 0 ≤ 2
     go q l (yes e) = rw (e, taken-here m p low) (omega arith)
     go q l (no d) = rw (taken-other m p low q d) (pol .fit .legal q l)
+
+-- the mend of type x, on its way: the rule was followed, and no type before x has a breach
+pub record Mending (ws low : List ℕ) (x : ℕ) (old new : List ℕ) (c : ℕ) : Type 0 where
+  pub follows : Follows ws old new c
+  pub policy : Policy ws new
+  pub spoilt : Spoilt ws new low
+  pub clean : CleanUpTo ws new x
+
+-- what the rule takes next is taken
+module _ {ws low : List ℕ} {x : ℕ} {old new : List ℕ} {c p : ℕ} (h : Mending ws low x old new c)
+    (t : (b : Breach) × FirstBreach ws new b × (b .element ≡ x) × Takes ws new (b .condition) b p) where
+  pub next-allowed : Allowed new p
+  next-allowed = takes-allowed ws new (t .0) p (t .1 .breach) (t .3)
+
+  next-own : Belongs ws p x
+  next-own = subst (λ (y : ℕ). Belongs ws p y) (t .2) (takes-own ws new (t .0) p (t .1 .breach) (t .3))
+
+  pub next-within : p < length new
+  next-within = marked-within new p (λ e. omega (arith, next-allowed))
+
+  pub mending-take : Mending ws low x old (set new p 2) (c + 1)
+  mending-take =
+      let s = breach-spoils (h .policy .accepted) (t .0) (t .1 .breach) in
+      let f : ForbiddenBelow ws new x (s .0) = subst (λ (y : ℕ). ForbiddenBelow ws new y (s .0)) (t .2) (s .1) in
+      record {
+        follows = take (t .0) p (h .follows) (t .1) (t .3);
+        policy = policy-stays p (h .policy) next-allowed;
+        spoilt = spoilt-stays next-own next-allowed f low (h .spoilt);
+        clean = clean-stays next-own next-allowed f (h .clean);
+      }
+
+  -- one mark less is allowed
+  pub next-less : allowedIn (set new p 2) (privileges ws) < allowedIn new (privileges ws)
+  next-less = omega (arith, allowed-less new p next-within next-allowed (privileges ws) (belongs-below next-own))
+
+-- the count is small
+pub mending-few : {ws low : List ℕ} {x : ℕ} {old new : List ℕ} {c : ℕ} → Mending ws low x old new c → c ≤ 4096
+mending-few {ws} {old = old} h = omega (arith, follows-bound (h .follows), allowed-most old (privileges ws), facts (h .policy .accepted) .privileges-few)
+
+-- the lowest numbers tell which types have something forbidden below them
+pub lows-spoilt : {ws m : List ℕ} → Policy ws m → (low : List ℕ) → Lows ws m low → Spoilt ws m low
+lows-spoilt {ws} {m} pol low h y l = tells-by (ltb (getD low y 0) 65535)
+    (λ e. (getD low y 0, h y l .here (ltb-true (getD low y 0) 65535 e)))
+    (λ e s. let top = ltb-false (getD low y 0) 65535 e in omega (arith, h y l .least (s .0) (s .1), below-small pol (s .1)))
+
+-- a type that is done, and the next
+pub mending-on : {ws low : List ℕ} {x : ℕ} {old mid new : List ℕ} {c d : ℕ} → Mending ws low x old mid c → Cleaned ws low x mid new d → Mending ws low (x + 1) old new (c + d)
+mending-on h k = record { follows = follows-trans (h .follows) (k .follows); policy = k .policy; spoilt = k .spoilt; clean = k .clean }
+
+-- where all types are done the policy is mended
+pub mending-done : {ws low old new : List ℕ} {c : ℕ} → Mending ws low (types ws) old new c → Mends ws old new c
+mending-done {ws} {new = new} h = follows-done (h .follows) (clean-all ws new (h .clean))

@@ -25,7 +25,14 @@ use verdict::marks::mark_at;
 use verdict::reach::reached;
 
 // Mends the star x: where its insert and delete are allowed and something is forbidden below its child, the delete is forbidden.
-fn mend_star(words: &[u16], m: &mut [u8], low: &[u16; 256], x: usize, kids: &[u16], n: Numbering) -> usize
+fn mend_star(
+    words: &[u16],
+    m: &mut [u8],
+    low: &[u16; 256],
+    x: usize,
+    kids: &[u16],
+    n: Numbering,
+) -> usize
     requires { ⌜ Visited (now words) (now m) (now low) x (now kids) n × IsStar (now words) x ⌝ }
     ensures { λ r. ⌜ Cleaned (now (words .entry)) (now (low .entry)) x (now (m .entry)) (now (m .exit)) r ⌝ }
 {
@@ -36,7 +43,7 @@ fn mend_star(words: &[u16], m: &mut [u8], low: &[u16; 256], x: usize, kids: &[u1
     if mark_at(m, delete) != 1 {
         return 0;
     }
-    if low[word_at(kids, 0)] == 65535 {
+    if 65535 <= low[word_at(kids, 0)] {
         return 0;
     }
     m[delete] = 2;
@@ -44,7 +51,14 @@ fn mend_star(words: &[u16], m: &mut [u8], low: &[u16; 256], x: usize, kids: &[u1
 }
 
 // Mends the choice x: what the rule takes is forbidden, again and again until it has no breach.
-fn mend_choice(words: &[u16], m: &mut [u8], low: &[u16; 256], x: usize, kids: &[u16], n: Numbering) -> usize
+fn mend_choice(
+    words: &[u16],
+    m: &mut [u8],
+    low: &[u16; 256],
+    x: usize,
+    kids: &[u16],
+    n: Numbering,
+) -> usize
     requires { ⌜ Visited (now words) (now m) (now low) x (now kids) n × IsChoice (now words) x ⌝ }
     ensures { λ r. ⌜ Cleaned (now (words .entry)) (now (low .entry)) x (now (m .entry)) (now (m .exit)) r ⌝ }
 {
@@ -70,8 +84,22 @@ fn mend_type(words: &[u16], m: &mut [u8], low: &[u16; 256], x: usize, first: usi
         Rule::Empty => 0,
         Rule::Text => 0,
         Rule::Sequence { first: _, count: _ } => 0,
-        Rule::Choice { first: _, count: _ } => mend_choice(words, m, low, x, children(words, x), numbers_at(words, x, first)),
-        Rule::Star { first: _, count: _ } => mend_star(words, m, low, x, children(words, x), numbers_at(words, x, first)),
+        Rule::Choice { first: _, count: _ } => mend_choice(
+            words,
+            m,
+            low,
+            x,
+            children(words, x),
+            numbers_at(words, x, first),
+        ),
+        Rule::Star { first: _, count: _ } => mend_star(
+            words,
+            m,
+            low,
+            x,
+            children(words, x),
+            numbers_at(words, x, first),
+        ),
     }
 }
 

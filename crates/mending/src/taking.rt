@@ -66,7 +66,15 @@ fn first_cycle(low: &[u16; 256], kids: &[u16], square: &[u8; 256]) -> Found
 }
 
 // What the rule takes next at the choice x, whose square tells what is reached.
-pub fn next_taken(words: &[u16], m: &[u8], low: &[u16; 256], x: usize, kids: &[u16], n: Numbering, square: &[u8; 256]) -> Found
+pub fn next_taken(
+    words: &[u16],
+    m: &[u8],
+    low: &[u16; 256],
+    x: usize,
+    kids: &[u16],
+    n: Numbering,
+    square: &[u8; 256],
+) -> Found
     requires { ⌜ Visited (now words) (now m) (now low) x (now kids) n × IsChoice (now words) x × Square (countOf (now words) x) (Reached (now words) (Allowed (now m)) x) (now square) ⌝ }
     ensures { λ r. ⌜ NextTaken (now (words .entry)) (now (m .entry)) x r ⌝ }
 {

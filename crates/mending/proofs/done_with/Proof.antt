@@ -2,9 +2,6 @@
 use borrow.Author.Needs.{needs}
 use Rattle.mending.proofs.done_with.Statement.{statement}
 use Rattle.mending.proofs.done_with.Tie as tie
-use Rattle.mending.proofs.done_with.Reads as reads
-use Rattle.mending.proofs.done_with.Lts as lts
-use Rattle.verdict.proofs.breaches.no_breach.Reads as no-breach-reads
 
 no-breach-requires : tie.Need-no-breach-requires
 no-breach-requires c κs = search needs

@@ -9,19 +9,9 @@ use Rattle.table.specs.Privilege.{privileges}
 use denote.Ref.{now}
 use native.Mathlib.Omega.{arith}
 use mathlib.Core.Path.{_≡_, refl, ap, _∙_}
-use Prim.Native.Nat.{ℕ}
 use borrow.Author.Needs.{needs}
 use Rattle.mending.proofs.judge_mend.Statement.{statement}
 use Rattle.mending.proofs.judge_mend.Tie as tie
-use Rattle.mending.proofs.judge_mend.Reads as reads
-use Rattle.mending.proofs.judge_mend.Lts as lts
-use Rattle.mending.proofs.done_with.Reads as done-with-reads
-use Rattle.mending.proofs.proposal.count_changes.Reads as count-changes-reads
-use Rattle.mending.proofs.proposal.lowest_change.Reads as lowest-change-reads
-use Rattle.verdict.proofs.breaches.first_breach.Reads as first-breach-reads
-use Rattle.verdict.proofs.marks.check_marks.Reads as check-marks-reads
-use Rattle.verdict.proofs.marks.check_policy.Reads as check-policy-reads
-use Rattle.verdict.proofs.refused.Reads as refused-reads
 
 -- past the first test there is a policy, past the second the proposed marks fit, past the third each is kept
 policy : (c : tie.Else1) → Policy (now (c .before .before .before .before .before .before .args .words)) (now (c .before .before .before .before .before .before .args .marks)) × (c .before .before .check-policy .result .place ≡ privileges (now (c .before .before .before .before .before .before .args .words)))

@@ -1,8 +1,5 @@
 use Rattle.completion.proofs.open.open_all.Statement.{statement}
 use Rattle.completion.proofs.open.open_all.Tie as tie
-use Rattle.completion.proofs.open.open_all.Reads as reads
-use Rattle.completion.proofs.open.open_all.Lts as lts
-use Rattle.table.proofs.words.word_at.Reads as word-at-reads
 
 abbrev Inv-loop : tie.InvT-loop
 Inv-loop opened₀ kids i₀ opened i = ?

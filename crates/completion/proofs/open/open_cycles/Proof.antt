@@ -1,9 +1,5 @@
 use Rattle.completion.proofs.open.open_cycles.Statement.{statement}
 use Rattle.completion.proofs.open.open_cycles.Tie as tie
-use Rattle.completion.proofs.open.open_cycles.Reads as reads
-use Rattle.completion.proofs.open.open_cycles.Lts as lts
-use Rattle.table.proofs.words.word_at.Reads as word-at-reads
-use Rattle.verdict.proofs.reach.leads.Reads as leads-reads
 
 abbrev Inv-loop : tie.InvT-loop
 Inv-loop opened₀ kids square i₀ opened i = ?

@@ -1,11 +1,6 @@
 use borrow.Author.Needs.{needs}
 use Rattle.completion.proofs.pass.both_allowed.Statement.{statement}
 use Rattle.completion.proofs.pass.both_allowed.Tie as tie
-use Rattle.completion.proofs.pass.both_allowed.Reads as reads
-use Rattle.completion.proofs.pass.both_allowed.Lts as lts
-use Rattle.table.proofs.privilege.deletion.Reads as deletion-reads
-use Rattle.table.proofs.privilege.insertion.Reads as insertion-reads
-use Rattle.verdict.proofs.marks.mark_at.Reads as mark-at-reads
 
 -- src/pass.rt:36:23
 insertion-requires : tie.Need-insertion-requires

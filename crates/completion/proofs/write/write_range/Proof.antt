@@ -1,9 +1,5 @@
 use Rattle.completion.proofs.write.write_range.Statement.{statement}
 use Rattle.completion.proofs.write.write_range.Tie as tie
-use Rattle.completion.proofs.write.write_range.Reads as reads
-use Rattle.completion.proofs.write.write_range.Lts as lts
-use Rattle.completion.proofs.write.decided.Reads as decided-reads
-use Rattle.verdict.proofs.marks.mark_at.Reads as mark-at-reads
 
 abbrev Inv-loop : tie.InvT-loop
 Inv-loop out₀ marks all from until p₀ out p = ?

@@ -1,11 +1,5 @@
 use Rattle.completion.proofs.write.write_row.Statement.{statement}
 use Rattle.completion.proofs.write.write_row.Tie as tie
-use Rattle.completion.proofs.write.write_row.Reads as reads
-use Rattle.completion.proofs.write.write_row.Lts as lts
-use Rattle.completion.proofs.write.decided.Reads as decided-reads
-use Rattle.table.proofs.privilege.is_replaceable.Reads as is-replaceable-reads
-use Rattle.table.proofs.privilege.replacement.Reads as replacement-reads
-use Rattle.verdict.proofs.reach.leads.Reads as leads-reads
 
 abbrev Inv-loop : tie.InvT-loop
 Inv-loop out₀ square n i count j₀ out j = ?

@@ -7,11 +7,9 @@ use lib.ListN.{length, getD, length-set}
 use mathlib.Core.Path.{_≡_, refl, _∙_}
 use denote.Ref.{now}
 use native.Mathlib.Omega.{arith}
-use Prim.Native.Nat.{ℕ, _-_, _+_, _≤_, _<_}
+use Prim.Native.Nat.{ℕ, _-_, _<_}
 use Rattle.mending.proofs.mend_types.copy.Statement.{statement}
 use Rattle.mending.proofs.mend_types.copy.Tie as tie
-use Rattle.mending.proofs.mend_types.copy.Reads as reads
-use Rattle.mending.proofs.mend_types.copy.Lts as lts
 
 abbrev Inv-loop : tie.InvT-loop
 Inv-loop marks m₀ p₀ m p = (length m ≡ length marks) × ((j : ℕ) → j < p → getD m j 0 ≡ getD marks j 0)

@@ -7,12 +7,9 @@ use denote.Ref.{now}
 use native.Mathlib.Omega.{arith}
 use mathlib.Core.Logic.{⊎-elim}
 use mathlib.Core.Path.{_≡_, refl, sym, _∙_}
-use Prim.Native.Nat.{ℕ, _-_, _+_, _≤_}
+use Prim.Native.Nat.{_-_, _≤_}
 use Rattle.mending.proofs.proposal.count_changes.Statement.{statement}
 use Rattle.mending.proofs.proposal.count_changes.Tie as tie
-use Rattle.mending.proofs.proposal.count_changes.Reads as reads
-use Rattle.mending.proofs.proposal.count_changes.Lts as lts
-use Rattle.verdict.proofs.marks.mark_at.Reads as mark-at-reads
 
 abbrev Inv-loop : tie.InvT-loop
 Inv-loop marks proposed v count₀ p₀ count p = (p ≤ v) × (count ≡ changes marks proposed p) × (count ≤ p)

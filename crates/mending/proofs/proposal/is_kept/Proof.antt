@@ -4,13 +4,9 @@ use Rattle.mending.specs.Proposals.{Kept}
 use mathlib.Core.Logic.{inl, inr}
 use mathlib.Core.Path.{sym, _∙_}
 use denote.Ref.{now}
-use native.Mathlib.Omega.{arith}
 use borrow.Author.Needs.{needs}
 use Rattle.mending.proofs.proposal.is_kept.Statement.{statement}
 use Rattle.mending.proofs.proposal.is_kept.Tie as tie
-use Rattle.mending.proofs.proposal.is_kept.Reads as reads
-use Rattle.mending.proofs.proposal.is_kept.Lts as lts
-use Rattle.verdict.proofs.marks.mark_at.Reads as mark-at-reads
 
 mark-at-requires : tie.Need-mark-at-requires
 mark-at-requires c κs = search needs

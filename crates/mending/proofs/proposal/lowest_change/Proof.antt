@@ -6,9 +6,6 @@ use borrow.Author.Tests.{not-true, not-false}
 use Prim.Native.Nat.{_-_}
 use Rattle.mending.proofs.proposal.lowest_change.Statement.{statement}
 use Rattle.mending.proofs.proposal.lowest_change.Tie as tie
-use Rattle.mending.proofs.proposal.lowest_change.Reads as reads
-use Rattle.mending.proofs.proposal.lowest_change.Lts as lts
-use Rattle.mending.proofs.proposal.is_kept.Reads as is-kept-reads
 
 abbrev Inv-loop : tie.InvT-loop
 Inv-loop marks proposed v p₀ p = Passed (Kept marks proposed) v p

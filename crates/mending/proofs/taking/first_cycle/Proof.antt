@@ -2,19 +2,14 @@
 use borrow.Author.Needs.{needs}
 use Rattle.mending.specs.Taking.{SpoiltAt}
 use borrow.Author.Count.{below-none, below-more}
-use lib.ListN.{length, getD}
+use lib.ListN.{length}
 use mathlib.Core.Logic.{⊎-elim}
-use mathlib.Core.Bool.{true, false, true≢false}
-use mathlib.Core.Path.{_≡_, sym, ap, _∙_}
-use denote.Ref.{now}
+use mathlib.Core.Bool.{true≢false}
+use mathlib.Core.Path.{sym, _∙_}
 use native.Mathlib.Omega.{arith}
-use Prim.Native.Nat.{ℕ, _-_, _+_, _≤_, _<_}
+use Prim.Native.Nat.{ℕ, _-_, _≤_, _<_}
 use Rattle.mending.proofs.taking.first_cycle.Statement.{statement}
 use Rattle.mending.proofs.taking.first_cycle.Tie as tie
-use Rattle.mending.proofs.taking.first_cycle.Reads as reads
-use Rattle.mending.proofs.taking.first_cycle.Lts as lts
-use Rattle.table.proofs.words.word_at.Reads as word-at-reads
-use Rattle.verdict.proofs.reach.leads.Reads as leads-reads
 
 abbrev Inv-loop : tie.InvT-loop
 Inv-loop low kids square i₀ i = (i ≤ length kids) × ((k : ℕ) → k < i → ¬ SpoiltAt low kids square k)
@@ -67,9 +62,9 @@ loop-again c =
     let at = led .before .before in (
       search needs,
       below-more _ _ (at .loop .inv .1) (λ s. ⊎-elim
-      (λ w. let high = w .3 .left in let s2 = rw (← w .1 .ensures .is) at (s .spoilt) in omega arith)
-      (λ w. true≢false (sym (s .circle) ∙ sym (led .leads .ensures) ∙ w .left))
-      (c .if1 .came)),
+          (λ w. let high = w .3 .left in let s2 = rw (← w .1 .ensures .is) at (s .spoilt) in omega arith)
+          (λ w. true≢false (sym (s .circle) ∙ sym (led .leads .ensures) ∙ w .left))
+          (c .if1 .came)),
     )
 
 returns-2 : tie.Need-returns-2 Inv-loop μ-loop

@@ -1,13 +1,11 @@
 -- By the tests on the way. Assumes nothing.
 use Rattle.table.proofs.Lowest.{told-yes, told-no, tells-by}
-use Rattle.mending.specs.Taking.{LeadsIn}
 use Rattle.verdict.specs.Squares.{StepIn}
-use Rattle.verdict.specs.Reached.{marked}
 use Rattle.table.specs.Privilege.{replaceIn, ReplaceableIn}
 use borrow.Author.Tests.{not-true, not-false}
 use lib.ListN.{getD}
 use Prim.Native.Nat.{ℕ}
-use mathlib.Core.Bool.{true, true≢false}
+use mathlib.Core.Bool.{true≢false}
 use mathlib.Core.Logic.{inl, inr}
 use mathlib.Core.Path.{_≡_, sym, ap, _∙_}
 use denote.Ref.{now}
@@ -15,12 +13,6 @@ use native.Mathlib.Omega.{arith}
 use borrow.Author.Needs.{needs}
 use Rattle.mending.proofs.taking.is_lead.Statement.{statement}
 use Rattle.mending.proofs.taking.is_lead.Tie as tie
-use Rattle.mending.proofs.taking.is_lead.Reads as reads
-use Rattle.mending.proofs.taking.is_lead.Lts as lts
-use Rattle.table.proofs.privilege.is_replaceable.Reads as is-replaceable-reads
-use Rattle.table.proofs.privilege.replacement.Reads as replacement-reads
-use Rattle.verdict.proofs.marks.mark_at.Reads as mark-at-reads
-use Rattle.verdict.proofs.reach.leads.Reads as leads-reads
 
 -- what the tests have shown: there is such a replacement, the mark read is its own, and it is allowed
 can : (c : tie.Else1) → ReplaceableIn (c .before .before .before .args .n) (c .before .before .before .args .i) (c .before .before .before .args .k)

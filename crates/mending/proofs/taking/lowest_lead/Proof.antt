@@ -1,20 +1,15 @@
 -- The loop has passed no lower lead, and there is one. Assumes nothing.
-use borrow.Author.Needs.{needs}
 use Rattle.table.proofs.Lists.{le-or-lt}
 use Rattle.table.proofs.Lowest.{told-yes, told-no}
 use Rattle.mending.specs.Taking.{LeadsIn}
 use borrow.Author.Tests.{not-true, not-false}
 use borrow.Author.Count.{below-none, below-more}
-use mathlib.Core.Logic.{_⊎_, inl, inr}
+use mathlib.Core.Logic.{inl, inr}
 use denote.Ref.{now}
 use native.Mathlib.Omega.{arith}
-use Prim.Native.Nat.{ℕ, _-_, _+_, _≤_, _<_}
+use Prim.Native.Nat.{ℕ, _-_, _<_}
 use Rattle.mending.proofs.taking.lowest_lead.Statement.{statement}
 use Rattle.mending.proofs.taking.lowest_lead.Tie as tie
-use Rattle.mending.proofs.taking.lowest_lead.Reads as reads
-use Rattle.mending.proofs.taking.lowest_lead.Lts as lts
-use Rattle.mending.proofs.taking.is_lead.Reads as is-lead-reads
-use Rattle.table.proofs.privilege.replacement.Reads as replacement-reads
 
 abbrev Inv-loop : tie.InvT-loop
 Inv-loop marks n square i j k₀ k = (l : ℕ) → l < k → ¬ LeadsIn marks n square i j l

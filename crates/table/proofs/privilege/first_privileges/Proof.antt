@@ -11,11 +11,6 @@ use mathlib.Core.Path.{_≡_, refl, sym, ap, _∙_}
 use Prim.Native.Nat.{ℕ, _+_, _-_, _*_, _%_, _≤_, _<_}
 use Rattle.table.proofs.privilege.first_privileges.Statement.{statement}
 use Rattle.table.proofs.privilege.first_privileges.Tie as tie
-use Rattle.table.proofs.privilege.first_privileges.Reads as reads
-use Rattle.table.proofs.privilege.first_privileges.Lts as lts
-use Rattle.table.proofs.privilege.privileges_at.Reads as privileges-at-reads
-use Rattle.table.proofs.words.lesser.Reads as lesser-reads
-use Rattle.table.proofs.words.types.Reads as types-reads
 
 abbrev Inv-loop : tie.InvT-loop
 Inv-loop words e firsts₀ first₀ x₀ firsts first x = (x ≤ e) × (e ≤ 256) × (first ≡ firstPrivilege words x) × (first ≤ 4294967296 * x) × (length firsts ≡ 256) × ((j : ℕ) → j < x → getD firsts j 0 ≡ firstPrivilege words j % 65536)

@@ -1,5 +1,3 @@
-use mathlib.Core.Logic.{_⊎_, inl, inr}
-use mathlib.Core.Logic.{inl, inr}
 -- The loop has passed no type with a breach. Assumes nothing.
 use borrow.Author.Needs.{needs}
 use Rattle.verdict.proofs.Firsts.{CleanBefore, clean-start, clean-more, clean-all, at-none, at-first, no-tag}

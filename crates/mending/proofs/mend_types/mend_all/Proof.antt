@@ -1,0 +1,105 @@
+-- The loop has mended the types passed, and followed the rule. Assumes nothing.
+use borrow.Author.Needs.{needs}
+use Rattle.mending.proofs.Staying.{Mending, lows-spoilt, mending-on, mending-done, mending-few}
+use Rattle.mending.specs.Taking.{start}
+use Rattle.verdict.proofs.Firsts.{clean-start}
+use Rattle.table.proofs.Facts.{facts}
+use Rattle.table.proofs.Privileges.{first-start, first-next, first-within}
+use Rattle.table.specs.Privilege.{firstPrivilege}
+use Rattle.table.specs.Words.{types}
+use mathlib.Core.Path.{_≡_, sym, ap, _∙_}
+use denote.Ref.{now}
+use native.Mathlib.Omega.{arith}
+use Prim.Native.Nat.{ℕ, _-_, _+_, _≤_, _<_}
+use Rattle.mending.proofs.mend_types.mend_all.Statement.{statement}
+use Rattle.mending.proofs.mend_types.mend_all.Tie as tie
+
+abbrev Inv-loop : tie.InvT-loop
+Inv-loop words m₀ low e count₀ first₀ x₀ m count first x = (x ≤ e) × (first ≡ firstPrivilege words x) × Mending words low x m₀ m count
+
+abbrev μ-loop : tie.MeasureT-loop
+μ-loop words m₀ low e count₀ first₀ x₀ m count first x = e - x
+
+-- the loop stands at a type, and goes on from its mend
+is-type : (c : tie.In-loop Inv-loop μ-loop) → c .before .loop .x < types (now (c .before .before .before .before .before .before .before .args .words))
+is-type c = omega (arith, c .loop-test .taken, c .before .before .types .ensures .is)
+
+onward : (c : tie.After-mend-type Inv-loop μ-loop) → Mending (now (c .before .before .before .before .before .before .before .before .before .before .args .words)) (c .before .before .before .before .before .before .forbidden-lows .result) (c .before .before .before .before .loop .x + 1) (now (c .before .before .before .before .before .before .before .before .before .before .args .m)) (c .mend-type .last .1 .0) (c .before .before .before .before .loop .count + c .mend-type .result)
+onward c = mending-on (c .before .before .before .before .loop .inv .2) (c .mend-type .ensures)
+
+forbidden-lows-requires : tie.Need-forbidden-lows-requires Inv-loop μ-loop
+forbidden-lows-requires c κs = c .before .before .before .pre
+
+types-requires : tie.Need-types-requires Inv-loop μ-loop
+types-requires c κs = search needs
+
+loop-holds : tie.Need-loop-holds Inv-loop μ-loop
+loop-holds c =
+    let pol = c .before .before .before .before .before .pre in
+    (search needs, sym (first-start _), record { follows = start; policy = pol; spoilt = lows-spoilt pol (c .before .forbidden-lows .result) (c .before .forbidden-lows .ensures); clean = clean-start _ _ })
+
+mend-type-requires : tie.Need-mend-type-requires Inv-loop μ-loop
+mend-type-requires c κs =
+    let at = c .before .before .before in
+    let h = at .loop .inv .2 in
+    (h .policy, h .spoilt, is-type (c .before .before), h .clean, at .loop .inv .1)
+
+add-count : tie.Need-add-count Inv-loop μ-loop
+add-count c = omega (arith, mending-few (onward (c .before .before)))
+
+privileges-at-requires : tie.Need-privileges-at-requires Inv-loop μ-loop
+privileges-at-requires c κs = search needs
+
+add-first : tie.Need-add-first Inv-loop μ-loop
+add-first c =
+    let loop = c .before .before .before .before .before .before in
+    let begin = loop .before .before .before .before .before .before .before in
+    omega (arith, c .privileges-at .ensures .small, first-within (now (begin .args .words)) (loop .before .loop .x) (omega (arith, is-type loop)), facts (begin .pre .accepted) .privileges-few)
+
+add-x : tie.Need-add-x Inv-loop μ-loop
+add-x c =
+    let loop = c .before .before .before .before .before .before in
+    omega (arith, loop .loop-test .taken)
+
+loop-less : tie.Need-loop-less Inv-loop μ-loop
+loop-less c =
+    let loop = c .before .before .before .before .before .before in
+    omega (arith, loop .loop-test .taken)
+
+loop-again : tie.Need-loop-again Inv-loop μ-loop
+loop-again c =
+    let loop = c .before .before .before .before .before .before in
+    let at = loop .before .loop in (
+      omega (arith, loop .loop-test .taken),
+      ap (λ (p : ℕ). p + c .privileges-at .result) (at .inv .1) ∙ rw (c .privileges-at .ensures .is) (sym (first-next _ (at .x))),
+      onward (c .before .before .before),
+    )
+
+same-length : tie.Need-same-length Inv-loop μ-loop
+same-length c = omega (arith, c .before .loop .inv .2 .policy .fit .size, c .before .before .before .before .before .before .before .pre .fit .size)
+
+returns : tie.Need-returns Inv-loop μ-loop
+returns c =
+    let at = c .before in
+    let begin = at .before .before .before .before .before .before in
+    let end : at .loop .x ≡ types (now (begin .args .words)) = omega (arith, at .loop .inv .0, c .loop-test .left, at .before .types .ensures .is) in
+    mending-done (rw end at (at .loop .inv .2))
+
+pub mend-all-spec : {M : Type 1} → statement M
+mend-all-spec =
+    tie.close
+    (tie.spec
+    Inv-loop
+    μ-loop
+    forbidden-lows-requires
+    types-requires
+    loop-holds
+    mend-type-requires
+    add-count
+    privileges-at-requires
+    add-first
+    add-x
+    loop-less
+    loop-again
+    same-length
+    returns)

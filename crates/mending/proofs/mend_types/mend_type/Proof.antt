@@ -1,0 +1,130 @@
+-- By the cases of the rule. Assumes nothing.
+use Rattle.mending.proofs.Next.{clean-on}
+use Rattle.mending.specs.Taking.{start}
+use Rattle.verdict.proofs.Breached.{plain-none}
+use Rattle.table.specs.declared.rule.Rule.{Rule}
+use Rattle.table.specs.Rule.{ruleAt, kindIn}
+use mathlib.Core.Path.{_≡_, sym, ap, _∙_}
+use denote.Ref.{now}
+use native.Mathlib.Omega.{arith}
+use borrow.Author.Needs.{needs}
+use Rattle.mending.proofs.mend_types.mend_type.Statement.{statement}
+use Rattle.mending.proofs.mend_types.mend_type.Tie as tie
+
+-- the kind of the type is that of the rule that was read
+kind : (c : tie.After-rule-at) {r : Rule} → c .rule-at .result ≡ r → kindIn (ruleAt (now (c .before .before .before .args .words)) (c .before .before .before .args .x)) ≡ kindIn r
+kind c e = ap kindIn (sym (c .rule-at .ensures .is) ∙ e)
+
+rule-at-requires : tie.Need-rule-at-requires
+rule-at-requires c κs = search needs
+
+enum-told : tie.Need-enum-told
+enum-told c = search needs
+
+enum-told-2 : tie.Need-enum-told-2
+enum-told-2 c = search needs
+
+enum-told-3 : tie.Need-enum-told-3
+enum-told-3 c = search needs
+
+enum-told-4 : tie.Need-enum-told-4
+enum-told-4 c = search needs
+
+children-requires : tie.Need-children-requires
+children-requires c κs = search needs
+
+numbers-at-requires : tie.Need-numbers-at-requires
+numbers-at-requires c κs = search needs
+
+mend-choice-requires : tie.Need-mend-choice-requires
+mend-choice-requires c κs =
+    let begin = c .before .before .before .before .before .before .before .before in
+    let p = begin .pre in (
+      record {
+        policy = p .0;
+        spoilt = p .1;
+        type = p .2;
+        clean = p .3;
+        kids-are = c .before .children .ensures;
+        numbered = c .numbers-at .ensures (p .0 .accepted) (p .2) (p .4);
+      },
+      record { type = p .2; kind-is = kind (c .before .before .before .before .before) (c .before .before .before .enum-told4 .given .1) },
+    )
+
+enum-told-5 : tie.Need-enum-told-5
+enum-told-5 c = search needs
+
+children-requires-2 : tie.Need-children-requires-2
+children-requires-2 c κs = search needs
+
+numbers-at-requires-2 : tie.Need-numbers-at-requires-2
+numbers-at-requires-2 c κs = search needs
+
+mend-star-requires : tie.Need-mend-star-requires
+mend-star-requires c κs =
+    let begin = c .before .before .before .before .before .before .before .before in
+    let p = begin .pre in (
+      record {
+        policy = p .0;
+        spoilt = p .1;
+        type = p .2;
+        clean = p .3;
+        kids-are = c .before .children2 .ensures;
+        numbered = c .numbers-at2 .ensures (p .0 .accepted) (p .2) (p .4);
+      },
+      record { type = p .2; kind-is = kind (c .before .before .before .before .before) (c .before .before .before .enum-told5 .given .1) },
+    )
+
+returns : tie.Need-returns
+returns c =
+    let p = c .before .before .before .before .before .pre in
+    let k = kind (c .before .before) (c .enum-told .given .1) in
+    record { follows = start; policy = p .0; spoilt = p .1; clean = clean-on (p .3) (plain-none _ _ _ (λ e. omega arith) (λ e. omega arith)) }
+
+returns-2 : tie.Need-returns-2
+returns-2 c =
+    let p = c .before .before .before .before .before .pre in
+    let k = kind (c .before .before) (c .enum-told2 .given .1) in
+    record { follows = start; policy = p .0; spoilt = p .1; clean = clean-on (p .3) (plain-none _ _ _ (λ e. omega arith) (λ e. omega arith)) }
+
+returns-3 : tie.Need-returns-3
+returns-3 c =
+    let p = c .before .before .before .before .before .pre in
+    let k = kind (c .before .before) (c .enum-told3 .given .1) in
+    record { follows = start; policy = p .0; spoilt = p .1; clean = clean-on (p .3) (plain-none _ _ _ (λ e. omega arith) (λ e. omega arith)) }
+
+same-length : tie.Need-same-length
+same-length c = search needs
+
+returns-4 : tie.Need-returns-4
+returns-4 c = search needs
+
+same-length-2 : tie.Need-same-length-2
+same-length-2 c = search needs
+
+returns-5 : tie.Need-returns-5
+returns-5 c = search needs
+
+pub mend-type-spec : {M : Type 1} → statement M
+mend-type-spec =
+    tie.close
+    (tie.spec
+    rule-at-requires
+    enum-told
+    enum-told-2
+    enum-told-3
+    enum-told-4
+    children-requires
+    numbers-at-requires
+    mend-choice-requires
+    enum-told-5
+    children-requires-2
+    numbers-at-requires-2
+    mend-star-requires
+    returns
+    returns-2
+    returns-3
+    same-length
+    returns-4
+    same-length-2
+    returns-5)
