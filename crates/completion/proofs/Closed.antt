@@ -67,7 +67,8 @@ module _ {ws : List ℕ} {S : ℕ → Type 0} where
   chained-edit : (e : Edit) → Offers ws e → (c : Chained ws S (privilegeOf ws e)) → e ≡ replace (c .at) (c .i) (c .j)
   chained-edit e o c = edit-one ws e (replace (c .at) (c .i) (c .j)) o (reached-replaceable (c .choice) (c .reached) (c .apart)) (c .is)
 
-  step-source : {x i j : ℕ} → Step ws (Granted ws S) x i j → Opened ws S x ⊎ Reached ws S x i j
+  -- a step that was granted is at an opened type, or reached
+  pub step-source : {x i j : ℕ} → Step ws (Granted ws S) x i j → Opened ws S x ⊎ Reached ws S x i j
   step-source {x} {i} {j} s = go (source (replace x i j) (s .can) (edit-belongs ws (replace x i j) (s .can)) (s .allowed))
     where
       go : S (replaceOf ws x i j) ⊎ Opened ws S x ⊎ Chained ws S (replaceOf ws x i j) → Opened ws S x ⊎ Reached ws S x i j

@@ -3,3 +3,4 @@ pub mod Closed
 pub mod Least
 pub mod Openings
 pub mod Writings
+pub mod Passing

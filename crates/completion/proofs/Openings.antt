@@ -1,6 +1,6 @@
 -- The children opened so far: one law for both loops, with G for what opens the child at a position. Assumes nothing.
 use Prim.Native.Nat.{ℕ, suc, _+_, _≤_, _<_}
-use mathlib.Core.Path.{_≡_, sym, ap, _∙_}
+use mathlib.Core.Path.{_≡_, refl, sym, ap, _∙_}
 use mathlib.Core.Logic.{_⊎_, inl, inr}
 use mathlib.Core.Bool.{Bool, true, false, true≢false}
 use mathlib.Core.List.{List}
@@ -26,6 +26,11 @@ pub record OpenedSoFar (G : ℕ → Type 0) (kids : List ℕ) (n : ℕ) (old new
   pub within : n ≤ length kids
   pub size : length new ≡ 256
   pub tells : (z : ℕ) → z < 256 → Tells ((isOpen old z ≡ true) ⊎ Among G kids n z) (isOpen new z)
+
+-- a flag that tells what holds is on
+pub holds-on : {P : Type 0} (r : Bool) → Tells P r → P → r ≡ true
+holds-on true t p = refl
+holds-on false t p = absurd (t p)
 
 -- a flag tells whether it was on, or what cannot be
 pub tells-kept : {A : Type 0} (r : Bool) → ¬ A → Tells ((r ≡ true) ⊎ A) r
@@ -75,3 +80,20 @@ open-end {G} {kids} {old} {new} {n} s h = record { size = s .size; tells = λ z 
     into : (z : ℕ) → (isOpen old z ≡ true) ⊎ ((i : ℕ) × (i < length kids) × (getD kids i 0 ≡ z) × G i) → (isOpen old z ≡ true) ⊎ Among G kids n z
     into z (inl e) = inl e
     into z (inr (i, l, e, g)) = inr (record { at = i; low = omega arith; is = e; opens = g })
+
+-- opened for another reason that comes to the same
+pub kids-as : {G H : ℕ → Type 0} {kids old new : List ℕ} → ((i : ℕ) → i < length kids → G i → H i) → ((i : ℕ) → i < length kids → H i → G i)
+    → KidsOpened G kids old new → KidsOpened H kids old new
+kids-as {G} {H} {kids} {old} {new} f g s = record { size = s .size; tells = λ z k. tells-as (out z) (into z) (isOpen new z) (s .tells z k) }
+  where
+    out : (z : ℕ) → (isOpen old z ≡ true) ⊎ ((i : ℕ) × (i < length kids) × (getD kids i 0 ≡ z) × G i) → (isOpen old z ≡ true) ⊎ ((i : ℕ) × (i < length kids) × (getD kids i 0 ≡ z) × H i)
+    out z (inl e) = inl e
+    out z (inr (i, l, e, o)) = inr (i, l, e, f i l o)
+
+    into : (z : ℕ) → (isOpen old z ≡ true) ⊎ ((i : ℕ) × (i < length kids) × (getD kids i 0 ≡ z) × H i) → (isOpen old z ≡ true) ⊎ ((i : ℕ) × (i < length kids) × (getD kids i 0 ≡ z) × G i)
+    into z (inl e) = inl e
+    into z (inr (i, l, e, o)) = inr (i, l, e, g i l o)
+
+-- none is opened
+pub kids-none : {G : ℕ → Type 0} {kids old : List ℕ} → length old ≡ 256 → ((i : ℕ) → i < length kids → ¬ G i) → KidsOpened G kids old old
+kids-none {old = old} h d = record { size = h; tells = λ z k. tells-kept (isOpen old z) (λ a. d (a .0) (a .1) (a .3)) }
