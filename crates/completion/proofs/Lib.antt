@@ -4,3 +4,4 @@ pub mod Least
 pub mod Openings
 pub mod Writings
 pub mod Passing
+pub mod Descent
