@@ -5,3 +5,4 @@ pub mod Openings
 pub mod Writings
 pub mod Passing
 pub mod Descent
+pub mod Completing
