@@ -1,7 +1,7 @@
 -- The pass from parents to children, along the order of the types read backwards. Assumes nothing.
 use Prim.Native.Nat.{ℕ, _+_, _≤_, _<_}
-use mathlib.Core.Path.{_≡_, refl, sym, ap, _∙_}
-use mathlib.Core.Logic.{_≢_, _⊎_, inl, inr}
+use mathlib.Core.Path.{_≡_, refl, sym, _∙_}
+use mathlib.Core.Logic.{_⊎_, inl, inr}
 use mathlib.Core.Bool.{true}
 use mathlib.Core.List.{List}
 use native.Mathlib.Nat.{eq-or-lt-of-le}
@@ -9,8 +9,8 @@ use native.Mathlib.Omega.{arith}
 use lib.ListN.{length, getD, replicate, getD-replicate}
 use Rattle.table.specs.Lowest.{Tells}
 use Rattle.table.specs.Words.{types}
-use Rattle.table.specs.Rule.{countOf, childrenAt, childAt, Child}
-use Rattle.table.specs.Privilege.{privileges, Belongs}
+use Rattle.table.specs.Rule.{childrenAt, childAt, Child}
+use Rattle.table.specs.Privilege.{Belongs}
 use Rattle.table.specs.Order.{BottomUp}
 use Rattle.table.specs.Check.{Accepted}
 use Rattle.table.proofs.Lowest.{told-yes, tells-as}

@@ -8,7 +8,7 @@ use native.Mathlib.Omega.{arith}
 use lib.ListN.{length, getD}
 use Rattle.table.specs.Words.{types}
 use Rattle.table.specs.Rule.{ruleAt, kindIn, countOf, childrenAt, IsChoice, IsStar}
-use Rattle.table.specs.Privilege.{privilegesAt, firstPrivilege, privileges, Belongs, insertOf, deleteOf, replaceOf, NumberedAs, replaceIn, ReplaceableIn, Replaceable, Edit, text, insert, delete, replace, typeOf, Offers, privilegeOf}
+use Rattle.table.specs.Privilege.{privilegesAt, firstPrivilege, privileges, Belongs, insertOf, deleteOf, replaceOf, NumberedAs, Replaceable, Edit, text, insert, delete, replace, typeOf, Offers, privilegeOf}
 use Rattle.table.specs.declared.privilege.Numbering.{Numbering}
 use Rattle.table.specs.Check.{Accepted}
 use Rattle.table.proofs.Lists.{le-or-lt}
@@ -19,11 +19,11 @@ use Rattle.verdict.specs.Reached.{Reached, marked, Square}
 use Rattle.verdict.specs.Forces.{chain}
 use Rattle.verdict.proofs.SquareLaws.{marked-told, told-marked}
 use Rattle.verdict.proofs.Forced.{reached-replaceable}
-use Rattle.completion.specs.Opens.{OpensAt, star, cycle, Opened, Granted, PassesOn}
+use Rattle.completion.specs.Opens.{star, cycle, Opened, Granted, PassesOn}
 use Rattle.completion.specs.Passes.{Visited}
 use Rattle.completion.specs.Writing.{Decision, KidsOpened, ChoiceWritten, Room, TypeWritten, RangeWritten}
 use Rattle.completion.proofs.Closed.{opened-forces, Chained, forces-cases, step-source}
-use Rattle.completion.proofs.Openings.{kids-as, kids-none}
+use Rattle.completion.proofs.Openings.{kids-as}
 use Rattle.completion.proofs.Writings.{decision-as}
 
 -- the marks from a type's first privilege on are its own

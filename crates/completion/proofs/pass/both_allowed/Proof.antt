@@ -35,7 +35,7 @@ mark-at-requires-2 c κs = search needs
 returns-2 : tie.Need-returns-2
 returns-2 c =
     let a = c .before .before .before .before .before .before .args in
-    tells-eq-as (Both (now (a .marks)) (a .n)) (c .mark-at2 .result) 1 
+    tells-eq-as (Both (now (a .marks)) (a .n)) (c .mark-at2 .result) 1
     (λ e. record { insert = sym (insert-mark (c .before .before .before)) ∙ c .before .before .if1 .left; delete = sym (delete-mark c) ∙ e })
     (λ b. delete-mark c ∙ b .delete)
 

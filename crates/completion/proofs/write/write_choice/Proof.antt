@@ -5,9 +5,6 @@ use borrow.Author.Needs.{needs}
 use Rattle.completion.proofs.Writings.{RowsPairs, pairs-none, rows-more, rows-all}
 use Rattle.completion.proofs.write.write_choice.Statement.{statement}
 use Rattle.completion.proofs.write.write_choice.Tie as tie
-use Rattle.completion.proofs.write.write_choice.Reads as reads
-use Rattle.completion.proofs.write.write_choice.Lts as lts
-use Rattle.completion.proofs.write.write_row.Reads as write-row-reads
 
 abbrev Inv-loop : tie.InvT-loop
 Inv-loop out₀ square n count i₀ out i = RowsPairs n square i out₀ out

@@ -1,13 +1,13 @@
 -- The loop has decided the marks up to p. Assumes nothing.
-use Prim.Native.Nat.{ℕ, _-_, _≤_, _<_}
-use mathlib.Core.Path.{_≡_, refl, sym, _∙_}
-use mathlib.Core.Logic.{_⊎_, inl, inr, ⊎-elim}
-use mathlib.Core.Bool.{true, true≢false}
+use Prim.Native.Nat.{_-_, _≤_, _<_}
+use mathlib.Core.Path.{_≡_, refl}
+use mathlib.Core.Logic.{_⊎_, inl, ⊎-elim}
+use mathlib.Core.Bool.{true}
 use native.Mathlib.Omega.{arith}
 use borrow.Author.Needs.{needs}
 use lib.ListN.{length}
 use Rattle.verdict.specs.Marks.{Allowed}
-use Rattle.completion.specs.Writing.{allow, forbid, RangeWritten}
+use Rattle.completion.specs.Writing.{allow, RangeWritten}
 use Rattle.completion.proofs.Writings.{decide-mark, range-start, range-more, range-end}
 use Rattle.completion.proofs.write.write_range.Statement.{statement}
 use Rattle.completion.proofs.write.write_range.Tie as tie
@@ -48,8 +48,8 @@ loop-again c =
     let s = at .before .loop .inv in
     let l = at .loop-test .taken in (
       ⊎-elim (λ w. rw (w .1) (range-more (s .0) (s .1) (room at) (allow (inl (w .0 .taken)) refl)))
-      (λ w. rw (w .3) (range-more (s .0) (s .1) (room at) (rw (w .2 .ensures, w .1 .ensures) (decide-mark _ (w .0 .left)))))
-      (c .if1 .came),
+          (λ w. rw (w .3) (range-more (s .0) (s .1) (room at) (rw (w .2 .ensures, w .1 .ensures) (decide-mark _ (w .0 .left)))))
+          (c .if1 .came),
       omega arith,
       λ h. omega arith,
       λ h. omega (arith, s .3 h),
