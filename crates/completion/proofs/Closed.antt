@@ -1,20 +1,20 @@
 -- What is granted forces nothing more: the operator T is closed. The argument of document 000, section 4.1: opening goes down, and a step
 -- that was granted is allowed, or reached, or at an opened type. Assumes nothing.
-use Prim.Native.Nat.{ℕ, _<_}
-use mathlib.Core.Path.{_≡_, refl, sym, ap, _∙_}
+use Prim.Native.Nat.{ℕ}
+use mathlib.Core.Path.{_≡_, refl}
 use mathlib.Core.Logic.{_≢_, _⊎_, inl, inr}
 use mathlib.Core.List.{List}
 use native.Mathlib.Omega.{arith}
-use Rattle.table.specs.Rule.{IsChoice, IsStar, countOf, childAt, Child}
-use Rattle.table.specs.Privilege.{Belongs, insertOf, deleteOf, replaceOf, Replaceable, Edit, insert, delete, replace, Offers, privilegeOf}
+use Rattle.table.specs.Rule.{IsChoice, IsStar, childAt, Child}
+use Rattle.table.specs.Privilege.{Belongs, insertOf, deleteOf, replaceOf, Edit, insert, delete, replace, Offers, privilegeOf}
 use Rattle.table.specs.Check.{Accepted}
 use Rattle.table.proofs.Privileges.{belongs-one, edit-belongs, edit-one}
 use Rattle.table.proofs.Facts.{facts, child-at}
 use Rattle.verdict.specs.Below.{Below, here, down, PrivilegeBelow}
-use Rattle.verdict.specs.Reached.{Plus, last, next, Step, Reached}
+use Rattle.verdict.specs.Reached.{last, next, Step, Reached}
 use Rattle.verdict.specs.Forces.{Forces, insert-delete, chain, cycle}
 use Rattle.verdict.proofs.Closures.{plus-trans}
-use Rattle.verdict.proofs.Breached.{reached-from, reached-to}
+use Rattle.verdict.proofs.Breached.{reached-from}
 use Rattle.verdict.proofs.Forced.{reached-replaceable}
 use Rattle.completion.specs.Opens.{OpensAt, Opened, Granted}
 use Rattle.completion.specs.Opens as opens
@@ -67,7 +67,8 @@ module _ {ws : List ℕ} {S : ℕ → Type 0} where
   chained-edit : (e : Edit) → Offers ws e → (c : Chained ws S (privilegeOf ws e)) → e ≡ replace (c .at) (c .i) (c .j)
   chained-edit e o c = edit-one ws e (replace (c .at) (c .i) (c .j)) o (reached-replaceable (c .choice) (c .reached) (c .apart)) (c .is)
 
-  step-source : {x i j : ℕ} → Step ws (Granted ws S) x i j → Opened ws S x ⊎ Reached ws S x i j
+  -- a step that was granted is at an opened type, or reached
+  pub step-source : {x i j : ℕ} → Step ws (Granted ws S) x i j → Opened ws S x ⊎ Reached ws S x i j
   step-source {x} {i} {j} s = go (source (replace x i j) (s .can) (edit-belongs ws (replace x i j) (s .can)) (s .allowed))
     where
       go : S (replaceOf ws x i j) ⊎ Opened ws S x ⊎ Chained ws S (replaceOf ws x i j) → Opened ws S x ⊎ Reached ws S x i j

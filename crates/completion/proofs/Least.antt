@@ -1,8 +1,8 @@
 -- The completion that allows exactly what is granted is the least; a policy has one exactly if it is clean; a fuller policy's allows all
 -- that the earlier's does (demand 3; theorem 2 of document 000). Assumes nothing.
-use Prim.Native.Nat.{ℕ, zero, suc, _≤_, _<_}
-use mathlib.Core.Path.{_≡_, refl, sym, _∙_}
-use mathlib.Core.Logic.{_≢_, _⊎_, inl, inr, _↔_}
+use Prim.Native.Nat.{ℕ, _≤_, _<_}
+use mathlib.Core.Path.{_≡_, sym, _∙_}
+use mathlib.Core.Logic.{_≢_, _⊎_, inl, inr}
 use mathlib.Core.List.{List}
 use native.Mathlib.Omega.{arith}
 use lib.ListN.{length, getD, List·getD-eq-default}
@@ -11,7 +11,6 @@ use Rattle.table.specs.Privilege.{privileges}
 use Rattle.table.proofs.Lists.{le-or-lt}
 use Rattle.verdict.specs.Marks.{Allowed, Forbidden, Policy}
 use Rattle.verdict.specs.Conditions.{Clean}
-use Rattle.verdict.specs.Forces.{Forces}
 use Rattle.verdict.proofs.Forced.{forces-mono, forced-below, clean-forces, forces-clean}
 use Rattle.completion.specs.Completions.{Keeps, Completes, LeastCompletion}
 use Rattle.completion.specs.Opens.{Granted}

@@ -6,11 +6,9 @@ pub mod pass;
 pub mod write;
 
 use pass::complete_all;
-use table::privilege::privileges;
 use verdict::Answer;
 use verdict::Condition;
 use verdict::breaches::first_breach;
-use verdict::breaches::no_breach;
 use verdict::marks::check_policy;
 use verdict::refused;
 

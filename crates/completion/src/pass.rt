@@ -1,14 +1,11 @@
 // One pass from parents to children: each type opens what it passes on, and its marks are written. Contracts cite specs/Passes.
-ghost use mathlib.Core.Path.{_≡_};
-ghost use Prim.Native.Nat.{_≤_, _<_};
+ghost use Prim.Native.Nat.{_≤_};
 ghost use lib.ListN.{length};
 ghost use Rattle.table.specs.Lowest.{Tells};
-ghost use Rattle.table.specs.Words.{types};
-ghost use Rattle.table.specs.Rule.{childrenAt, IsChoice, IsStar};
-ghost use Rattle.table.specs.Privilege.{firstPrivilege, privileges};
+ghost use Rattle.table.specs.Rule.{IsChoice, IsStar};
+ghost use Rattle.table.specs.Privilege.{privileges};
 ghost use Rattle.verdict.specs.Marks.{Allowed, Policy};
 ghost use Rattle.completion.specs.Opens.{Opened};
-ghost use Rattle.completion.specs.Writing.{isOpen};
 ghost use Rattle.completion.specs.Passes.{Visited, Both, Done, Filled};
 use super::open::open_all;
 use super::open::open_cycles;

@@ -230,6 +230,10 @@ module _ (ws : List ℕ) where
 pub row-few : {n : Numbering} {i j : ℕ} → Positions n i j → i * (n .count - 1) ≤ 256
 row-few h = mul-le-mul {n₂ = 16} {m₂ = 16} (omega (arith, h .from, h .few)) (omega (arith, h .few))
 
+-- different pairs have different numbers
+pub replace-in-one : (n : Numbering) (i j k l : ℕ) → ReplaceableIn n i j → ReplaceableIn n k l → replaceIn n i j ≡ replaceIn n k l → (i ≡ k) × (j ≡ l)
+replace-in-one n i j k l g h e = slot-one (n .count) i j k l (g .from) (g .to) (g .apart) (h .from) (h .to) (h .apart) (omega arith)
+
 module _ {ws : List ℕ} {x : ℕ} {n : Numbering} (h : NumberedAs ws x n) where
   pub positions : {i j : ℕ} → Replaceable ws x i j → Positions n i j
   positions r = record { low = h .low; few = h .few; from = omega (arith, h .count, r .from); to = omega (arith, h .count, r .to) }

@@ -1,51 +1,67 @@
+-- The loop has decided the marks up to p. Assumes nothing.
+use Prim.Native.Nat.{_-_, _≤_, _<_}
+use mathlib.Core.Path.{_≡_, refl}
+use mathlib.Core.Logic.{_⊎_, inl, ⊎-elim}
+use mathlib.Core.Bool.{true}
+use native.Mathlib.Omega.{arith}
+use borrow.Author.Needs.{needs}
+use lib.ListN.{length}
+use Rattle.verdict.specs.Marks.{Allowed}
+use Rattle.completion.specs.Writing.{allow, RangeWritten}
+use Rattle.completion.proofs.Writings.{decide-mark, range-start, range-more, range-end}
 use Rattle.completion.proofs.write.write_range.Statement.{statement}
 use Rattle.completion.proofs.write.write_range.Tie as tie
 
 abbrev Inv-loop : tie.InvT-loop
-Inv-loop out₀ marks all from until p₀ out p = ?
+Inv-loop out₀ marks all from until p₀ out p = RangeWritten (λ q. (all ≡ true) ⊎ Allowed marks q) from p out₀ out × (from ≤ p) × (from ≤ until → p ≤ until) × (until < from → p ≡ from)
 
 abbrev μ-loop : tie.MeasureT-loop
-μ-loop out₀ marks all from until p₀ out p = ?
+μ-loop out₀ marks all from until p₀ out p = until - p
 
--- src/write.rt:32:5
+room : (c : tie.In-loop Inv-loop μ-loop) → c .before .loop .p < length (c .before .loop .out)
+room c = omega (arith, c .before .loop .inv .0 .size)
+
 loop-holds : tie.Need-loop-holds Inv-loop μ-loop
-loop-holds c = ?
+loop-holds c = (range-start, search needs, λ l. l, λ l. refl)
 
--- src/write.rt:34:13
 slice-write-out : tie.Need-slice-write-out Inv-loop μ-loop
-slice-write-out c = ?
+slice-write-out c = room (c .before)
 
--- src/write.rt:36:30
 mark-at-requires : tie.Need-mark-at-requires Inv-loop μ-loop
-mark-at-requires c κs = ?
+mark-at-requires c κs = search needs
 
--- src/write.rt:36:22
 decided-requires : tie.Need-decided-requires Inv-loop μ-loop
-decided-requires c κs = ?
+decided-requires c κs = search needs
 
--- src/write.rt:36:13
 slice-write-out-2 : tie.Need-slice-write-out-2 Inv-loop μ-loop
-slice-write-out-2 c = ?
+slice-write-out-2 c = room (c .before .before .before)
 
--- src/write.rt:38:9
 add-p : tie.Need-add-p Inv-loop μ-loop
-add-p c = ?
+add-p c = search needs
 
--- src/write.rt:32:5
 loop-less : tie.Need-loop-less Inv-loop μ-loop
-loop-less c = ?
+loop-less c = search needs
 
--- src/write.rt:32:5
 loop-again : tie.Need-loop-again Inv-loop μ-loop
-loop-again c = ?
+loop-again c =
+    let at = c .before in
+    let s = at .before .loop .inv in
+    let l = at .loop-test .taken in (
+      ⊎-elim (λ w. rw (w .1) (range-more (s .0) (s .1) (room at) (allow (inl (w .0 .taken)) refl)))
+          (λ w. rw (w .3) (range-more (s .0) (s .1) (room at) (rw (w .2 .ensures, w .1 .ensures) (decide-mark _ (w .0 .left)))))
+          (c .if1 .came),
+      omega arith,
+      λ h. omega arith,
+      λ h. omega (arith, s .3 h),
+    )
 
--- src/write.rt:27:1
 same-length : tie.Need-same-length Inv-loop μ-loop
-same-length c = ?
+same-length c = c .before .loop .inv .0 .size
 
--- src/write.rt:27:1
 returns : tie.Need-returns Inv-loop μ-loop
-returns c = ?
+returns c =
+    let s = c .before .loop .inv in
+    range-end (s .0) (s .2) (s .3) (omega arith)
 
 pub write-range-spec : {M : Type 1} → statement M
 write-range-spec =

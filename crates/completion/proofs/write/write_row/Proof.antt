@@ -1,55 +1,79 @@
+-- The loop has decided the replacements of row i up to column j. Assumes nothing.
+use Prim.Native.Nat.{ℕ, _-_, _<_}
+use mathlib.Core.Path.{_≡_}
+use mathlib.Core.Logic.{⊎-elim}
+use mathlib.Core.Bool.{true}
+use native.Mathlib.Omega.{arith}
+use borrow.Author.Needs.{needs}
+use lib.ListN.{length}
+use Rattle.table.specs.Privilege.{replaceIn, ReplaceableIn}
+use Rattle.table.specs.declared.privilege.Numbering.{Numbering}
+use Rattle.table.proofs.Lowest.{told-yes, told-no}
+use Rattle.completion.proofs.Writings.{decide-flag, RowPairs, pairs-none, pairs-one, row-more, row-all}
 use Rattle.completion.proofs.write.write_row.Statement.{statement}
 use Rattle.completion.proofs.write.write_row.Tie as tie
 
 abbrev Inv-loop : tie.InvT-loop
-Inv-loop out₀ square n i count j₀ out j = ?
+Inv-loop out₀ square n i count j₀ out j = RowPairs n square i j out₀ out
 
 abbrev μ-loop : tie.MeasureT-loop
-μ-loop out₀ square n i count j₀ out j = ?
+μ-loop out₀ square n i count j₀ out j = count - j
 
--- src/write.rt:49:5
+-- where the test says so, the replacement can be made, and its mark is one of the result's
+module _ (c : tie.After-is-replaceable Inv-loop μ-loop) (e : c .is-replaceable .result ≡ true) where
+  abbrev n : Numbering
+  n = c .before .before .before .before .args .n
+
+  abbrev i : ℕ
+  i = c .before .before .before .before .args .i
+
+  replaceable : ReplaceableIn n i (c .before .before .loop .j)
+  replaceable = told-yes (c .is-replaceable .result) (c .is-replaceable .ensures) e
+
+  room : replaceIn n i (c .before .before .loop .j) < length (c .before .before .loop .out)
+  room = omega (arith, c .before .before .before .before .pre .0 .room i (c .before .before .loop .j) replaceable, c .before .before .loop .inv .size)
+
 loop-holds : tie.Need-loop-holds Inv-loop μ-loop
-loop-holds c = ?
+loop-holds c = pairs-none (λ a b w r. omega (arith, w .1))
 
--- src/write.rt:50:12
 is-replaceable-requires : tie.Need-is-replaceable-requires Inv-loop μ-loop
-is-replaceable-requires c κs = ?
+is-replaceable-requires c κs = search needs
 
--- src/write.rt:51:49
 leads-requires : tie.Need-leads-requires Inv-loop μ-loop
-leads-requires c κs = ?
+leads-requires c κs = search needs
 
--- src/write.rt:51:41
 decided-requires : tie.Need-decided-requires Inv-loop μ-loop
-decided-requires c κs = ?
+decided-requires c κs = search needs
 
--- src/write.rt:51:17
 replacement-requires : tie.Need-replacement-requires Inv-loop μ-loop
-replacement-requires c κs = ?
+replacement-requires c κs =
+    let asked = c .before .before .before in
+    let can = replaceable asked (c .before .before .if1 .taken) in
+    let small = asked .before .before .before .before .pre .0 .small in
+    record { low = small .low; few = small .few; from = can .from; to = can .to }
 
--- src/write.rt:51:13
 slice-write-out : tie.Need-slice-write-out Inv-loop μ-loop
-slice-write-out c = ?
+slice-write-out c = rw (c .replacement .ensures) (room (c .before .before .before .before) (c .before .before .before .if1 .taken))
 
--- src/write.rt:53:9
 add-j : tie.Need-add-j Inv-loop μ-loop
-add-j c = ?
+add-j c = search needs
 
--- src/write.rt:49:5
 loop-less : tie.Need-loop-less Inv-loop μ-loop
-loop-less c = ?
+loop-less c = search needs
 
--- src/write.rt:49:5
 loop-again : tie.Need-loop-again Inv-loop μ-loop
-loop-again c = ?
+loop-again c =
+    let asked = c .before in
+    row-more (asked .before .before .loop .inv)
+    (⊎-elim (λ w. rw (w .4, w .3 .ensures, w .2 .ensures, w .1 .ensures) (pairs-one (replaceable asked (w .0 .taken)) (room asked (w .0 .taken)) (decide-flag _)))
+    (λ w. rw (w .1) (pairs-none (λ a b e r. told-no (asked .is-replaceable .result) (asked .is-replaceable .ensures) (w .0 .left) (rw (e .0, e .1) at r))))
+    (c .if1 .came))
 
--- src/write.rt:43:1
 same-length : tie.Need-same-length Inv-loop μ-loop
-same-length c = ?
+same-length c = c .before .loop .inv .size
 
--- src/write.rt:43:1
 returns : tie.Need-returns Inv-loop μ-loop
-returns c = ?
+returns c = row-all (c .before .loop .inv) (omega arith)
 
 pub write-row-spec : {M : Type 1} → statement M
 write-row-spec =

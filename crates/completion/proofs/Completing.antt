@@ -1,0 +1,102 @@
+-- Completing a policy: what was written is the least completion; a call has one outcome; and filling one more blank takes nothing back
+-- (demand 3). Assumes nothing.
+use Prim.Native.Nat.{ℕ, _+_, _-_, _≤_, _<_}
+use mathlib.Core.Path.{_≡_, sym, ap, subst, _∙_}
+use mathlib.Core.Logic.{_≢_}
+use mathlib.Core.List.{List, _++_}
+use native.Mathlib.Omega.{arith}
+use lib.ListN.{length, getD, take, drop, length-drop, take-append-drop, List·getD-append}
+use lib.Seq.{length-take-le, getD-take, getD-drop, ext-getD}
+use Rattle.table.specs.Privilege.{privileges}
+use Rattle.verdict.specs.Marks.{Allowed, Policy}
+use Rattle.verdict.specs.Conditions.{Clean}
+use Rattle.verdict.specs.Breaches.{BreachOf, FirstBreach, Verdict, clean, broken}
+use Rattle.verdict.specs.Answers.{breached, done}
+use Rattle.verdict.specs.declared.Answer.{Answer}
+use Rattle.verdict.specs.declared.Breach.{Breach}
+use Rattle.verdict.specs.declared.Condition.{Condition}
+use Rattle.verdict.specs.declared.Condition.the-variants.{None}
+use Rattle.verdict.proofs.Policies.{policy-not, refused-one, refused-number}
+use Rattle.verdict.proofs.Firsts.{first-one, clean-none}
+use Rattle.verdict.proofs.Judged.{refusal-one}
+use Rattle.completion.specs.Completions.{Keeps, Completes, LeastCompletion}
+use Rattle.completion.specs.Passes.{Filled}
+use Rattle.completion.specs.Answers.{CompleteAnswer, refused, short, none, given}
+use Rattle.completion.proofs.Least.{Completed, completes-clean, completed-least, least-one, completes-earlier, fuller-allows}
+
+-- the verdict by its condition
+pub verdict-clean : {ws m : List ℕ} {b : Breach} → Verdict ws m b → b .condition ≡ None → Clean ws m
+verdict-clean (clean q e) k = q
+verdict-clean {ws} {m} {b} (broken f) k = absurd (subst (λ (d : Condition). BreachOf ws m d b) k (f .breach))
+
+pub verdict-broken : {ws m : List ℕ} {b : Breach} → Verdict ws m b → b .condition ≢ None → FirstBreach ws m b
+verdict-broken (clean q e) d = absurd (d (ap (λ (b : Breach). b .condition) e))
+verdict-broken (broken f) d = f
+
+-- a policy with a breach has no completion
+pub broken-none : {ws m : List ℕ} {b : Breach} → FirstBreach ws m b → (n : List ℕ) → ¬ Completes ws m n
+broken-none {ws} {m} {b} f n c = clean-none ws m (completes-clean c) b (f .breach)
+
+-- a clean one gets what was written
+module _ {ws m out after : List ℕ} (room : privileges ws ≤ length out) (f : Filled ws m out after) where
+  front : Completed ws m (take (privileges ws) after)
+  front = record {
+    size = length-take-le (privileges ws) after (omega (arith, f .size));
+    each = λ p l. rw (getD-take (privileges ws) after p 0 l) (f .each p l);
+  }
+
+  rest-kept : drop (privileges ws) after ≡ drop (privileges ws) out
+  rest-kept = ext-getD 0 (drop (privileges ws) after) (drop (privileges ws) out)
+      (length-drop (privileges ws) after ∙ ap (λ (n : ℕ). n - privileges ws) (f .size) ∙ sym (length-drop (privileges ws) out))
+      (λ i l. getD-drop (privileges ws) after i 0 ∙ f .rest (privileges ws + i) (omega arith) ∙ sym (getD-drop (privileges ws) out i 0))
+
+  pub filled-given : {a : Answer} → Policy ws m → Clean ws m → a ≡ done 0 → CompleteAnswer ws m out a after
+  filled-given pol q e = given pol room (completed-least pol front q) e
+      (sym (take-append-drop (privileges ws) after) ∙ ap (λ (l : List ℕ). take (privileges ws) after ++ l) rest-kept)
+
+-- a call has one outcome: its answer, and what the lent result holds
+pub complete-one : {ws m out : List ℕ} {a b : Answer} {x y : List ℕ} → CompleteAnswer ws m out a x → CompleteAnswer ws m out b y → (a ≡ b) × (x ≡ y)
+complete-one (refused n e s) (refused o f t) = (e ∙ refusal-one (refused-one n o) ∙ sym f, s ∙ sym t)
+complete-one (refused n e s) (short q m f t) = absurd (policy-not q n)
+complete-one (refused n e s) (none q m o c f t) = absurd (policy-not q n)
+complete-one (refused n e s) (given q m d f t) = absurd (policy-not q n)
+complete-one (short p l e s) (refused o f t) = absurd (policy-not p o)
+complete-one (short p l e s) (short q m f t) = (e ∙ sym f, s ∙ sym t)
+complete-one (short p l e s) (none q m o c f t) = absurd (omega arith)
+complete-one (short p l e s) (given q m d f t) = absurd (omega arith)
+complete-one (none p l n b e s) (refused o f t) = absurd (policy-not p o)
+complete-one (none p l n b e s) (short q m f t) = absurd (omega arith)
+complete-one {ws} {m} (none p l n b e s) (none q k o c f t) = (e ∙ ap breached (first-one ws m b c) ∙ sym f, s ∙ sym t)
+complete-one (none p l n b e s) (given {n = o} q m d f t) = absurd (n o (d .completes))
+complete-one (given p l c e s) (refused o f t) = absurd (policy-not p o)
+complete-one (given p l c e s) (short q m f t) = absurd (omega arith)
+complete-one (given {n = n} p l c e s) (none q m o b f t) = absurd (o n (c .completes))
+complete-one {ws} {m} {out} (given p l c e s) (given q k d f t) = (e ∙ sym f, s ∙ ap (λ (n : List ℕ). n ++ drop (privileges ws) out) (least-one c d) ∙ sym t)
+
+-- number 0: the front of the result is the least completion
+zero-least : {ws m out : List ℕ} {a : Answer} {x : List ℕ} → CompleteAnswer ws m out a x → a .number ≡ 0
+    → (n : List ℕ) × LeastCompletion ws m n × (x ≡ n ++ drop (privileges ws) out)
+zero-least (refused n e s) z = absurd (refused-number n (sym (ap (λ (r : Answer). r .number) e) ∙ z))
+zero-least (short p l e s) z = absurd (omega (arith, ap (λ (r : Answer). r .number) e))
+zero-least (none p l n b e s) z = absurd (omega (arith, ap (λ (r : Answer). r .number) e))
+zero-least (given {n = n} p l c e s) z = (n, c, s)
+
+least-front : {ws m n : List ℕ} (rest : List ℕ) → LeastCompletion ws m n → (p : ℕ) → p < privileges ws → getD (n ++ rest) p 0 ≡ getD n p 0
+least-front {n = n} rest c p l = List·getD-append n rest 0 p (omega (arith, c .completes .size))
+
+-- over two calls: where a fuller policy has a completion, so has the earlier one, and every permission that it is given the fuller one is given
+pub fuller : {ws m k out lent : List ℕ} {a b : Answer} {x y : List ℕ} → Policy ws m → Keeps m k → CompleteAnswer ws k lent b y → b .number ≡ 0
+    → privileges ws ≤ length out → CompleteAnswer ws m out a x → (a .number ≡ 0) × ((p : ℕ) → p < privileges ws → Allowed x p → Allowed y p)
+fuller {ws} {m} {k} {out} {lent} {a} {b} {x} {y} pol keeps later z room earlier = go (zero-least later z) earlier
+  where
+    go : (o : List ℕ) × LeastCompletion ws k o × (y ≡ o ++ drop (privileges ws) lent) → CompleteAnswer ws m out a x
+        → (a .number ≡ 0) × ((p : ℕ) → p < privileges ws → Allowed x p → Allowed y p)
+    go (o, d, t) (refused n e s) = absurd (policy-not pol n)
+    go (o, d, t) (short p l e s) = absurd (omega arith)
+    go (o, d, t) (none p l n c e s) = absurd (n o (completes-earlier keeps (d .completes)))
+    go (o, d, t) (given {n = n} p l c e s) = (ap (λ (r : Answer). r .number) e, allows)
+      where
+        allows : (p : ℕ) → p < privileges ws → Allowed x p → Allowed y p
+        allows p h g =
+            let here : Allowed n p = sym (least-front (drop (privileges ws) out) c p h) ∙ rw s at g in
+            rw t (least-front (drop (privileges ws) lent) d p h ∙ fuller-allows keeps c d p here)

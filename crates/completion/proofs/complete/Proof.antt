@@ -1,0 +1,96 @@
+-- What is no policy, or has no room, is refused; a policy with a breach has no completion; a clean one gets the least. Assumes nothing.
+use Prim.Native.Nat.{ℕ, _≤_}
+use mathlib.Core.Path.{_≡_, refl}
+use mathlib.Core.Logic.{_⊎_, inl, inr}
+use native.Mathlib.Omega.{arith}
+use borrow.Author.Needs.{needs}
+use denote.Ref.{now}
+use lib.ListN.{length}
+use Rattle.table.specs.Privilege.{privileges}
+use Rattle.verdict.specs.Marks.{Policy}
+use Rattle.verdict.proofs.Policies.{policy-refused, policy-fits}
+use Rattle.completion.specs.Answers.{refused, short, none}
+use Rattle.completion.proofs.Completing.{verdict-clean, verdict-broken, broken-none, filled-given}
+use Rattle.completion.proofs.complete.Statement.{statement}
+use Rattle.completion.proofs.complete.Tie as tie
+
+-- past the first test the marks are a policy, and the place is V
+fits : (c : tie.Else1) → let a = c .before .before .before .before .before .before .args in Policy (now (a .words)) (now (a .marks)) × (c .before .before .check-policy .result .place ≡ privileges (now (a .words)))
+fits c = policy-fits (c .if1 .left) (c .before .before .check-policy .ensures)
+
+-- past the second there is room
+room : (c : tie.Else2) → let a = c .before .before .before .before .before .before .before .before .args in privileges (now (a .words)) ≤ length (now (a .out))
+room c = omega (arith, c .if2 .left, fits (c .before .before) .1)
+
+-- a breach that was found is of one of the three conditions
+no-tag : (_≡_ {A = ℕ} 0 1) ⊎ (_≡_ {A = ℕ} 0 2) ⊎ (_≡_ {A = ℕ} 0 3) → ⊥
+no-tag (inl e) = omega arith
+no-tag (inr (inl e)) = omega arith
+no-tag (inr (inr e)) = omega arith
+
+check-policy-requires : tie.Need-check-policy-requires
+check-policy-requires c κs = search needs
+
+refused-requires : tie.Need-refused-requires
+refused-requires c κs = search needs
+
+returns : tie.Need-returns
+returns c =
+    let checked = c .before .before .before in
+    refused (policy-refused (c .before .if1 .taken) (checked .check-policy .ensures)) (c .refused .ensures) refl
+
+refused-requires-2 : tie.Need-refused-requires-2
+refused-requires-2 c κs = search needs
+
+returns-2 : tie.Need-returns-2
+returns-2 c =
+    let fit = fits (c .before .before .before) in
+    short (fit .0) (omega (arith, c .before .if2 .taken, fit .1)) (c .refused2 .ensures) refl
+
+first-breach-requires : tie.Need-first-breach-requires
+first-breach-requires c κs = fits (c .before .before) .0
+
+enum-told : tie.Need-enum-told
+enum-told c = search needs
+
+complete-all-requires : tie.Need-complete-all-requires
+complete-all-requires c κs =
+    let asked = c .before .before .before .before in
+    (fits (asked .before .before) .0, room asked)
+
+refused-requires-3 : tie.Need-refused-requires-3
+refused-requires-3 c κs = search needs
+
+same-length : tie.Need-same-length
+same-length c = search needs
+
+returns-3 : tie.Need-returns-3
+returns-3 c =
+    let filled = c .before .before .before in
+    let told = filled .before .before in
+    let found = told .before .before in
+    filled-given (room (found .before)) (filled .complete-all .ensures) (fits (found .before .before .before) .0)
+    (verdict-clean (found .first-breach .ensures) (told .enum-told .given .1)) (c .refused3 .ensures)
+
+returns-4 : tie.Need-returns-4
+returns-4 c =
+    let found = c .before in
+    let first = verdict-broken (found .first-breach .ensures) (λ e. no-tag (rw e at (c .match .keys2))) in
+    none (fits (found .before .before .before) .0) (room (found .before)) (broken-none first) first refl refl
+
+pub complete-spec : {M : Type 1} → statement M
+complete-spec =
+    tie.close
+    (tie.spec
+    check-policy-requires
+    refused-requires
+    returns
+    refused-requires-2
+    returns-2
+    first-breach-requires
+    enum-told
+    complete-all-requires
+    refused-requires-3
+    same-length
+    returns-3
+    returns-4)

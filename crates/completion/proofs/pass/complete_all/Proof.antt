@@ -1,0 +1,144 @@
+-- The pass has done the types from place k of the order on, and so the parents of the type that it comes to. Assumes nothing.
+use Prim.Native.Nat.{ℕ, _+_, _-_, _≤_, _<_}
+use mathlib.Core.Path.{_≡_}
+use native.Mathlib.Omega.{arith}
+use borrow.Author.Needs.{needs}
+use denote.Ref.{now}
+use lib.ListN.{getD}
+use Rattle.table.specs.Words.{types}
+use Rattle.table.specs.Privilege.{firstPrivilege}
+use Rattle.table.specs.Order.{BottomUp}
+use Rattle.table.proofs.Facts.{facts}
+use Rattle.table.proofs.Privileges.{first-within}
+use Rattle.completion.proofs.Descent.{Descended, descent-start, descent-told, descent-more, descent-all}
+use Rattle.completion.proofs.pass.complete_all.Statement.{statement}
+use Rattle.completion.proofs.pass.complete_all.Tie as tie
+
+abbrev Inv-loop : tie.InvT-loop
+Inv-loop words marks out₀ order firsts opened₀ k₀ out opened k = (k ≤ types words) × Descended words marks order k opened out₀ out
+
+abbrev μ-loop : tie.MeasureT-loop
+μ-loop words marks out₀ order firsts opened₀ k₀ out opened k = k
+
+order-up : (c : tie.After-bottom-up Inv-loop μ-loop) → BottomUp (now (c .before .before .before .before .args .words)) (c .bottom-up .result)
+order-up c = c .bottom-up .ensures (c .before .before .before .before .pre .0 .accepted)
+
+-- the loop comes to the place before k, which holds a type
+module _ (c : tie.In-loop Inv-loop μ-loop) where
+  abbrev start : tie.Start Inv-loop μ-loop
+  start = c .before .before .before .before .before .before .before .before
+
+  abbrev order : tie.After-bottom-up Inv-loop μ-loop
+  order = c .before .before .before .before
+
+  place : c .before .loop .k - 1 < types (now (start .args .words))
+  place = omega (arith, c .loop-test .taken, c .before .loop .inv .0)
+
+  few : types (now (start .args .words)) ≤ 256
+  few = facts (start .pre .0 .accepted) .few
+
+  abbrev x : ℕ
+  x = getD (order .bottom-up .result) (c .before .loop .k - 1) 0
+
+  type : x < types (now (start .args .words))
+  type = order-up order .inside (c .before .loop .k - 1) place
+
+  first-is : getD (c .before .before .before .first-privileges .result) x 0 ≡ firstPrivilege (now (start .args .words)) x
+  first-is = c .before .before .before .first-privileges .ensures (start .pre .0 .accepted) x type
+
+  first-low : firstPrivilege (now (start .args .words)) x ≤ 4096
+  first-low = omega (arith, first-within (now (start .args .words)) x (omega (arith, type)), facts (start .pre .0 .accepted) .privileges-few)
+
+  -- the types after that place are done
+  stands : Descended (now (start .args .words)) (now (start .args .marks)) (order .bottom-up .result) (c .before .loop .k - 1 + 1) (c .before .loop .opened) (now (start .args .out)) (c .before .loop .out)
+  stands = let e : c .before .loop .k ≡ c .before .loop .k - 1 + 1 = omega (arith, c .loop-test .taken) in rw e at (c .before .loop .inv .1)
+
+bottom-up-requires : tie.Need-bottom-up-requires Inv-loop μ-loop
+bottom-up-requires c κs = search needs
+
+first-privileges-requires : tie.Need-first-privileges-requires Inv-loop μ-loop
+first-privileges-requires c κs = search needs
+
+types-requires : tie.Need-types-requires Inv-loop μ-loop
+types-requires c κs = search needs
+
+loop-holds : tie.Need-loop-holds Inv-loop μ-loop
+loop-holds c = (search needs, rw (c .types .ensures .is) (descent-start (c .before .before .before .before .before .before .pre .0 .accepted)))
+
+sub-k : tie.Need-sub-k Inv-loop μ-loop
+sub-k c = search needs
+
+array-read-x : tie.Need-array-read-x Inv-loop μ-loop
+array-read-x c = omega (arith, place c, few c)
+
+cast-x : tie.Need-cast-x Inv-loop μ-loop
+cast-x c = omega (arith, type c, few c)
+
+mul-complete-type : tie.Need-mul-complete-type Inv-loop μ-loop
+mul-complete-type c = omega (arith, type c, few c)
+
+array-read-complete-type : tie.Need-array-read-complete-type Inv-loop μ-loop
+array-read-complete-type c = omega (arith, type c, few c)
+
+cast-complete-type : tie.Need-cast-complete-type Inv-loop μ-loop
+cast-complete-type c = omega (arith, first-is c, first-low c)
+
+children-requires : tie.Need-children-requires Inv-loop μ-loop
+children-requires c κs = search needs
+
+complete-type-requires : tie.Need-complete-type-requires Inv-loop μ-loop
+complete-type-requires c κs =
+    let loop = c .before .before .before in
+    let start = loop .before .before .before .before .before .before .before .before in
+    let acc = start .pre .0 .accepted in
+    record {
+      policy = start .pre .0;
+      type = type loop;
+      first-is = first-is loop;
+      kids-are = c .before .before .children .ensures;
+      size = loop .before .loop .inv .1 .flags;
+      told = descent-told acc (order-up (loop .before .before .before .before)) (stands loop) (place loop);
+      room = omega (arith, start .pre .1, loop .before .loop .inv .1 .size);
+    }
+
+loop-less : tie.Need-loop-less Inv-loop μ-loop
+loop-less c = search needs
+
+loop-again : tie.Need-loop-again Inv-loop μ-loop
+loop-again c =
+    let done = c .before .before in
+    let loop = done .before .before .before .before in
+    let start = loop .before .before .before .before .before .before .before .before in
+    (search needs, descent-more (start .pre .0 .accepted) (order-up (loop .before .before .before .before)) (stands loop) (place loop) (done .complete-type .ensures))
+
+same-length : tie.Need-same-length Inv-loop μ-loop
+same-length c = c .before .loop .inv .1 .size
+
+returns : tie.Need-returns Inv-loop μ-loop
+returns c =
+    let at = c .before in
+    let end : at .loop .k ≡ 0 = omega (arith, c .loop-test .left) in
+    descent-all (order-up (at .before .before .before)) (rw end at (at .loop .inv .1))
+
+pub complete-all-spec : {M : Type 1} → statement M
+complete-all-spec =
+    tie.close
+    (tie.spec
+    Inv-loop
+    μ-loop
+    bottom-up-requires
+    first-privileges-requires
+    types-requires
+    loop-holds
+    sub-k
+    array-read-x
+    cast-x
+    mul-complete-type
+    array-read-complete-type
+    cast-complete-type
+    children-requires
+    complete-type-requires
+    loop-less
+    loop-again
+    same-length
+    returns)

@@ -1,0 +1,58 @@
+-- What is granted of a choice that is not opened is what is reached, which the square tells. Assumes nothing.
+use borrow.Author.Needs.{needs}
+use denote.Ref.{now}
+use Rattle.table.specs.Privilege.{NumberedAs}
+use Rattle.completion.proofs.Passing.{choice-kids, choice-own, choice-room, visit-few, visit-small}
+use Rattle.completion.proofs.pass.complete_choice.Statement.{statement}
+use Rattle.completion.proofs.pass.complete_choice.Tie as tie
+
+-- the numbering is that of the choice
+numbered : (c : tie.After-numbers-at) → let a = c .before .before .before .before .before .args in NumberedAs (now (a .words)) (a .x) (c .numbers-at .result)
+numbered c =
+    let visit = c .before .before .before .before .before .pre .0 in
+    c .numbers-at .ensures (visit .policy .accepted) (visit .type) (visit .first-is)
+
+numbers-at-requires : tie.Need-numbers-at-requires
+numbers-at-requires c κs = search needs
+
+reached-requires : tie.Need-reached-requires
+reached-requires c κs =
+    let pre = c .before .before .before .before .before .pre in
+    let visit = pre .0 in
+    (visit .policy, pre .2, visit .kids-are, numbered c)
+
+open-cycles-requires : tie.Need-open-cycles-requires
+open-cycles-requires c κs =
+    let visit = c .before .before .before .before .before .before .before .before .pre .0 in
+    (visit .size, visit-few visit, visit-small visit)
+
+write-choice-requires : tie.Need-write-choice-requires
+write-choice-requires c κs =
+    let n = c .before .before .before .before .before .before in
+    let pre = n .before .before .before .before .before .pre in
+    choice-room (pre .0) (pre .2) (numbered n)
+
+same-length : tie.Need-same-length
+same-length c = search needs
+
+returns : tie.Need-returns
+returns c =
+    let written = c .before .before in
+    let opened = written .before .before .before in
+    let square = opened .before .before .before in
+    let pre = square .before .before .before .before .before .before .pre in
+    record {
+      kids = choice-kids (pre .1) (pre .2) (square .reached .ensures) (pre .0 .policy .accepted) (rw (pre .0 .kids-are) at (opened .open-cycles .ensures));
+      own = choice-own (pre .1) (pre .2) (square .reached .ensures) (numbered (square .before)) (written .write-choice .ensures);
+    }
+
+pub complete-choice-spec : {M : Type 1} → statement M
+complete-choice-spec =
+    tie.close
+    (tie.spec
+    numbers-at-requires
+    reached-requires
+    open-cycles-requires
+    write-choice-requires
+    same-length
+    returns)
