@@ -13,15 +13,12 @@ use Rattle.table.proofs.Facts.{facts, child-at}
 use Rattle.verdict.specs.Below.{Below, here, down, PrivilegeBelow}
 use Rattle.verdict.specs.Reached.{last, next, Step, Reached}
 use Rattle.verdict.specs.Forces.{Forces, insert-delete, chain, cycle}
+use Rattle.verdict.proofs.Lows.{below-trans}
 use Rattle.verdict.proofs.Closures.{plus-trans}
 use Rattle.verdict.proofs.Breached.{reached-from}
 use Rattle.verdict.proofs.Forced.{reached-replaceable}
 use Rattle.completion.specs.Opens.{OpensAt, Opened, Granted}
 use Rattle.completion.specs.Opens as opens
-
-pub below-trans : {ws : List ℕ} {x y z : ℕ} → Below ws x y → Below ws y z → Below ws x z
-below-trans b here = b
-below-trans b (down w c d) = down w c (below-trans b d)
 
 -- opening goes down
 pub opened-down : {ws : List ℕ} {S : ℕ → Type 0} {x y : ℕ} → Opened ws S y → Below ws x y → Opened ws S x

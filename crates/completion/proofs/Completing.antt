@@ -1,8 +1,7 @@
 -- Completing a policy: what was written is the least completion; a call has one outcome; and filling one more blank takes nothing back
 -- (demand 3). Assumes nothing.
 use Prim.Native.Nat.{ℕ, _+_, _-_, _≤_, _<_}
-use mathlib.Core.Path.{_≡_, sym, ap, subst, _∙_}
-use mathlib.Core.Logic.{_≢_}
+use mathlib.Core.Path.{_≡_, sym, ap, _∙_}
 use mathlib.Core.List.{List, _++_}
 use native.Mathlib.Omega.{arith}
 use lib.ListN.{length, getD, take, drop, length-drop, take-append-drop, List·getD-append}
@@ -10,12 +9,10 @@ use lib.Seq.{length-take-le, getD-take, getD-drop, ext-getD}
 use Rattle.table.specs.Privilege.{privileges}
 use Rattle.verdict.specs.Marks.{Allowed, Policy}
 use Rattle.verdict.specs.Conditions.{Clean}
-use Rattle.verdict.specs.Breaches.{BreachOf, FirstBreach, Verdict, clean, broken}
+use Rattle.verdict.specs.Breaches.{FirstBreach}
 use Rattle.verdict.specs.Answers.{breached, done}
 use Rattle.verdict.specs.declared.Answer.{Answer}
 use Rattle.verdict.specs.declared.Breach.{Breach}
-use Rattle.verdict.specs.declared.Condition.{Condition}
-use Rattle.verdict.specs.declared.Condition.the-variants.{None}
 use Rattle.verdict.proofs.Policies.{policy-not, refused-one, refused-number}
 use Rattle.verdict.proofs.Firsts.{first-one, clean-none}
 use Rattle.verdict.proofs.Judged.{refusal-one}
@@ -23,15 +20,6 @@ use Rattle.completion.specs.Completions.{Keeps, Completes, LeastCompleti
 use Rattle.completion.specs.Passes.{Filled}
 use Rattle.completion.specs.Answers.{CompleteAnswer, refused, short, none, given}
 use Rattle.completion.proofs.Least.{Completed, completes-clean, completed-least, least-one, completes-earlier, fuller-allows}
-
--- the verdict by its condition
-pub verdict-clean : {ws m : List ℕ} {b : Breach} → Verdict ws m b → b .condition ≡ None → Clean ws m
-verdict-clean (clean q e) k = q
-verdict-clean {ws} {m} {b} (broken f) k = absurd (subst (λ (d : Condition). BreachOf ws m d b) k (f .breach))
-
-pub verdict-broken : {ws m : List ℕ} {b : Breach} → Verdict ws m b → b .condition ≢ None → FirstBreach ws m b
-verdict-broken (clean q e) d = absurd (d (ap (λ (b : Breach). b .condition) e))
-verdict-broken (broken f) d = f
 
 -- a policy with a breach has no completion
 pub broken-none : {ws m : List ℕ} {b : Breach} → FirstBreach ws m b → (n : List ℕ) → ¬ Completes ws m n

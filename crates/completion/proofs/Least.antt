@@ -2,24 +2,21 @@
 -- that the earlier's does (demand 3; theorem 2 of document 000). Assumes nothing.
 use Prim.Native.Nat.{ℕ, _≤_, _<_}
 use mathlib.Core.Path.{_≡_, sym, _∙_}
-use mathlib.Core.Logic.{_≢_, _⊎_, inl, inr}
+use mathlib.Core.Logic.{_⊎_, inl, inr}
 use mathlib.Core.List.{List}
 use native.Mathlib.Omega.{arith}
-use lib.ListN.{length, getD, List·getD-eq-default}
+use lib.ListN.{length, getD}
 use lib.Seq.{ext-getD}
 use Rattle.table.specs.Privilege.{privileges}
 use Rattle.table.proofs.Lists.{le-or-lt}
 use Rattle.verdict.specs.Marks.{Allowed, Forbidden, Policy}
 use Rattle.verdict.specs.Conditions.{Clean}
+use Rattle.verdict.proofs.Policies.{marked-within}
 use Rattle.verdict.proofs.Forced.{forces-mono, forced-below, clean-forces, forces-clean}
 use Rattle.completion.specs.Completions.{Keeps, Completes, LeastCompletion}
 use Rattle.completion.specs.Opens.{Granted}
 use Rattle.completion.specs.Writing.{Decision, allow, forbid}
 use Rattle.completion.proofs.Closed.{granted-closed}
-
--- a set mark is one of the list's
-pub marked-within : (m : List ℕ) (p : ℕ) → getD m p 0 ≢ 0 → p < length m
-marked-within m p d = elim (le-or-lt (length m) p) [ inl l ↦ absurd (d (List·getD-eq-default m 0 l)) | inr l ↦ l ]
 
 -- n allows exactly what is granted
 pub record Completed (ws m n : List ℕ) : Type 0 where

@@ -1,30 +1,27 @@
 -- What the mending rule gives: one outcome, clean, only 1 became 2, and its count is that of the changed marks. Assumes nothing.
-use Prim.Native.Nat.{ℕ, zero, suc, _+_, _≤_, _<_}
+use Prim.Native.Nat.{ℕ, suc, _+_, _≤_, _<_}
 use mathlib.Core.Path.{_≡_, refl, sym, ap, _∙_}
-use mathlib.Core.Logic.{_≢_, _⊎_, inl, inr}
+use mathlib.Core.Logic.{_⊎_, inl, inr}
 use mathlib.Core.List.{List}
 use native.Mathlib.Nat.{zero-add, add-zero, add-assoc}
 use native.Mathlib.Decide.{ℕ-discrete}
 use native.Mathlib.Omega.{arith}
-use lib.ListN.{length, getD, set, length-set, List·getD-eq-default}
+use lib.ListN.{length, set, length-set}
 use Rattle.table.specs.Privilege.{privileges, Belongs, replaceOf, delete, replace}
 use Rattle.table.proofs.Lists.{le-or-lt}
 use Rattle.table.proofs.Privileges.{belongs-below, edit-belongs}
-use Rattle.verdict.specs.Marks.{Allowed, Forbidden, Fit, Policy}
+use Rattle.verdict.specs.Marks.{Allowed, Forbidden}
 use Rattle.verdict.specs.Conditions.{Clean}
-use Rattle.verdict.specs.Breaches.{IsBreach, BreachOf, FirstBreach}
+use Rattle.verdict.specs.Breaches.{IsBreach, BreachOf}
 use Rattle.verdict.specs.declared.Breach.{Breach}
 use Rattle.verdict.specs.declared.Condition.{Condition}
 use Rattle.verdict.specs.declared.Condition.the-variants.{None, InsertDelete, Chain, Cycle}
+use Rattle.verdict.proofs.Policies.{marked-within}
 use Rattle.verdict.proofs.Firsts.{first-one, clean-none}
-use Rattle.mending.specs.Mends.{Leads, LowestLead, Takes, Mends, done, more}
+use Rattle.mending.specs.Mends.{LowestLead, Takes, Mends, done, more}
 use Rattle.mending.specs.Proposals.{Kept, changes}
 use Rattle.mending.specs.Taking.{Follows, start, take}
-use Rattle.mending.proofs.Counting.{allowedIn, allowed-most, taken-here, taken-other, allowed-less, changes-more, changes-none}
-
--- a set mark is one of the list's
-pub marked-within : (m : List ℕ) (p : ℕ) → getD m p 0 ≢ 0 → p < length m
-marked-within m p d = elim (le-or-lt (length m) p) [ inl l ↦ absurd (d (List·getD-eq-default m 0 l)) | inr l ↦ l ]
+use Rattle.mending.proofs.Counting.{allowedIn, taken-here, taken-other, allowed-less, changes-more, changes-none}
 
 module _ (ws m : List ℕ) where
   lowest-lead-one : {x i j p q : ℕ} → LowestLead ws m x i j p → LowestLead ws m x i j q → p ≡ q

@@ -2,7 +2,7 @@
 -- privilege of x leaves it told which types have something forbidden below them, and no type before x comes to have a breach. Assumes
 -- nothing.
 use Prim.Native.Nat.{ℕ, _+_, _≤_, _<_}
-use mathlib.Core.Path.{_≡_, refl, sym, ap, subst, _∙_}
+use mathlib.Core.Path.{_≡_, refl, sym, subst, _∙_}
 use mathlib.Core.Logic.{_≢_, _⊎_, inl, inr}
 use mathlib.Core.List.{List}
 use native.Mathlib.Decide.{ℕ-discrete}
@@ -11,29 +11,26 @@ use borrow.Author.Tests.{ltb-true, ltb-false}
 use lib.Dec.{ltb}
 use lib.ListN.{length, getD, set, length-set}
 use Rattle.table.specs.Words.{types}
-use Rattle.table.specs.Rule.{childAt, Child, IsStar, IsChoice, countOf}
-use Rattle.table.specs.Privilege.{Belongs, privileges, insertOf, deleteOf, replaceOf, insert, delete, replace, Edit, Offers, privilegeOf, typeOf}
+use Rattle.table.specs.Rule.{childAt, countOf}
+use Rattle.table.specs.Privilege.{Belongs, privileges, insertOf, deleteOf, insert, delete, replace}
 use Rattle.table.specs.Check.{Accepted}
 use Rattle.table.proofs.Privileges.{belongs-one, belongs-below, edit-belongs}
 use Rattle.table.proofs.Facts.{facts, child-at}
 use Rattle.table.proofs.Lowest.{tells-as, tells-by}
 use Rattle.verdict.specs.Marks.{Allowed, Forbidden, Policy}
-use Rattle.verdict.specs.Below.{Below, here, down, PrivilegeBelow, ForbiddenBelow, Lows}
+use Rattle.verdict.specs.Below.{Below, here, down, ForbiddenBelow, Lows}
 use Rattle.verdict.specs.Breaches.{IsBreach, FirstBreach, InsertDeleteBreach, ChainBreach, CycleBreach}
 use Rattle.verdict.specs.declared.Breach.{Breach}
 use Rattle.verdict.specs.declared.Condition.the-variants.{InsertDelete, Chain, Cycle}
+use Rattle.verdict.proofs.Policies.{marked-within}
 use Rattle.verdict.proofs.Forced.{reached-mono, reached-replaceable}
 use Rattle.verdict.proofs.Breached.{reached-from}
-use Rattle.verdict.proofs.Lows.{below-small}
+use Rattle.verdict.proofs.Lows.{below-trans, below-small}
 use Rattle.verdict.proofs.Firsts.{breach-cases, clean-all}
 use Rattle.mending.specs.Mends.{Takes, Mends}
 use Rattle.mending.specs.Taking.{Spoilt, CleanUpTo, Cleaned, Follows, take}
 use Rattle.mending.proofs.Counting.{allowedIn, allowed-most, allowed-less, taken-here, taken-other}
-use Rattle.mending.proofs.Mended.{marked-within, takes-allowed, takes-own, follows-bound, follows-trans, follows-done}
-
-below-trans : {ws : List ℕ} {x y z : ℕ} → Below ws x y → Below ws y z → Below ws x z
-below-trans b here = b
-below-trans b (down w c d) = down w c (below-trans b d)
+use Rattle.mending.proofs.Mended.{takes-allowed, takes-own, follows-bound, follows-trans, follows-done}
 
 -- what is forbidden below a type below y is forbidden below y
 forbidden-up : {ws marks : List ℕ} {x y q : ℕ} → ForbiddenBelow ws marks x q → Below ws x y → ForbiddenBelow ws marks y q

@@ -1,5 +1,5 @@
 -- The answer of a table check: there is one for each run of words, and number 0 means an accepted table. Assumes nothing.
-use Prim.Native.Nat.{ℕ, zero, suc, _+_, _≤_, _<_}
+use Prim.Native.Nat.{ℕ, suc, _+_, _≤_, _<_}
 use mathlib.Core.Path.{_≡_, refl, sym, ap, _∙_}
 use mathlib.Core.Logic.{_⊎_, inl, inr}
 use mathlib.Core.List.{List, [], _∷_}
@@ -8,7 +8,7 @@ use native.Mathlib.Omega.{arith}
 use lib.ListN.{getD}
 use Rattle.table.specs.Lowest.{LowestAt}
 use Rattle.table.specs.Privilege.{privileges}
-use Rattle.table.specs.Check.{Holds, numberOf, Passes, Earlier, Refused, Accepted, TableAnswer, refused, accepted}
+use Rattle.table.specs.Check.{numberOf, Passes, Refused, Accepted, TableAnswer, refused, accepted}
 use Rattle.table.specs.declared.check.Check.{Check}
 use Rattle.table.specs.declared.check.Check.the-variants.{Format, Layout, Kind, Count, Stretch, Bounds, Twice, Orphan, Total}
 use Rattle.table.proofs.Lists.{le-or-lt}

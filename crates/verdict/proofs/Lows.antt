@@ -18,6 +18,10 @@ use Rattle.table.proofs.Facts.{facts, child-at}
 use Rattle.verdict.specs.Marks.{Forbidden, Policy}
 use Rattle.verdict.specs.Below.{Below, here, down, PrivilegeBelow, ForbiddenBelow, ForbiddenOwn, Low, Range, Least, OwnLows}
 
+pub below-trans : {ws : List ℕ} {x y z : ℕ} → Below ws x y → Below ws y z → Below ws x z
+below-trans b here = b
+below-trans b (down w c d) = down w c (below-trans b d)
+
 -- none, and the first
 pub low-none : {P : ℕ → Type 0} → ((q : ℕ) → ¬ P q) → Low P 65535
 low-none n = record { top = omega arith; here = λ l. absurd (omega arith); least = λ q p. absurd (n q p) }

@@ -1,13 +1,19 @@
 -- What checking marks, and a table with its marks, answers: one answer each. Assumes nothing.
 use Prim.Native.Nat.{ℕ, _+_, _≤_, _<_}
 use mathlib.Core.Path.{_≡_, refl, sym, ap, _∙_}
-use mathlib.Core.Logic.{_≢_}
+use mathlib.Core.Logic.{_≢_, inl, inr}
 use mathlib.Core.List.{List}
 use native.Mathlib.Omega.{arith}
+use lib.ListN.{length, getD, List·getD-eq-default}
 use Rattle.table.specs.Privilege.{privileges}
 use Rattle.table.specs.Check.{Accepted, TableAnswer}
+use Rattle.table.proofs.Lists.{le-or-lt}
 use Rattle.table.proofs.Answers.{answer-one, answer-accepted, accepted-answer, lowest-one}
 use Rattle.verdict.specs.Marks.{Fit, Unfit, length-off, mark-above, MarksAnswer, unfit, fit, Policy, NoPolicy, table, marks, PolicyAnswer, refused, fits}
+
+-- a set mark is one of the list's
+pub marked-within : (m : List ℕ) (p : ℕ) → getD m p 0 ≢ 0 → p < length m
+marked-within m p d = elim (le-or-lt (length m) p) [ inl l ↦ absurd (d (List·getD-eq-default m 0 l)) | inr l ↦ l ]
 
 module _ {first v : ℕ} {ms : List ℕ} where
   -- marks that are fit are not unfit

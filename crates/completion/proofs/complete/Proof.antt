@@ -1,7 +1,6 @@
 -- What is no policy, or has no room, is refused; a policy with a breach has no completion; a clean one gets the least. Assumes nothing.
-use Prim.Native.Nat.{ℕ, _≤_}
+use Prim.Native.Nat.{_≤_}
 use mathlib.Core.Path.{_≡_, refl}
-use mathlib.Core.Logic.{_⊎_, inl, inr}
 use native.Mathlib.Omega.{arith}
 use borrow.Author.Needs.{needs}
 use denote.Ref.{now}
@@ -9,8 +8,9 @@ use lib.ListN.{length}
 use Rattle.table.specs.Privilege.{privileges}
 use Rattle.verdict.specs.Marks.{Policy}
 use Rattle.verdict.proofs.Policies.{policy-refused, policy-fits}
+use Rattle.verdict.proofs.Firsts.{verdict-clean, verdict-broken, no-tag}
 use Rattle.completion.specs.Answers.{refused, short, none}
-use Rattle.completion.proofs.Completing.{verdict-clean, verdict-broken, broken-none, filled-given}
+use Rattle.completion.proofs.Completing.{broken-none, filled-given}
 use Rattle.completion.proofs.complete.Statement.{statement}
 use Rattle.completion.proofs.complete.Tie as tie
 
@@ -21,12 +21,6 @@ fits c = policy-fits (c .if1 .left) (c .before .before .check-policy .ensures)
 -- past the second there is room
 room : (c : tie.Else2) → let a = c .before .before .before .before .before .before .before .before .args in privileges (now (a .words)) ≤ length (now (a .out))
 room c = omega (arith, c .if2 .left, fits (c .before .before) .1)
-
--- a breach that was found is of one of the three conditions
-no-tag : (_≡_ {A = ℕ} 0 1) ⊎ (_≡_ {A = ℕ} 0 2) ⊎ (_≡_ {A = ℕ} 0 3) → ⊥
-no-tag (inl e) = omega arith
-no-tag (inr (inl e)) = omega arith
-no-tag (inr (inr e)) = omega arith
 
 check-policy-requires : tie.Need-check-policy-requires
 check-policy-requires c κs = search needs
@@ -70,12 +64,12 @@ returns-3 c =
     let told = filled .before .before in
     let found = told .before .before in
     filled-given (room (found .before)) (filled .complete-all .ensures) (fits (found .before .before .before) .0)
-    (verdict-clean (found .first-breach .ensures) (told .enum-told .given .1)) (c .refused3 .ensures)
+    (verdict-clean _ _ (found .first-breach .ensures) (told .enum-told .given .1)) (c .refused3 .ensures)
 
 returns-4 : tie.Need-returns-4
 returns-4 c =
     let found = c .before in
-    let first = verdict-broken (found .first-breach .ensures) (λ e. no-tag (rw e at (c .match .keys2))) in
+    let first = verdict-broken _ _ (found .first-breach .ensures) (λ e. no-tag (rw e at (c .match .keys2))) in
     none (fits (found .before .before .before) .0) (room (found .before)) (broken-none first) first refl refl
 
 pub complete-spec : {M : Type 1} → statement M

@@ -1,8 +1,9 @@
+-- By the tests on the way: no breach, or the delete is what the rule takes. Assumes nothing.
+
 use Rattle.mending.proofs.Staying.{Mending}
 use Rattle.mending.specs.Mends.{Takes}
 use Rattle.verdict.specs.Breaches.{FirstBreach}
 use Rattle.verdict.specs.declared.Breach.{Breach}
--- By the tests on the way: no breach, or the delete is what the rule takes. Assumes nothing.
 use Rattle.mending.proofs.Next.{clean-on, star-none, star-next, star-again}
 use Rattle.mending.proofs.Staying.{mending-take, next-within}
 use Rattle.mending.specs.Taking.{start}

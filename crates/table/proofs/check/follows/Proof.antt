@@ -1,7 +1,6 @@
 -- The index that was read is the running one. Assumes nothing.
 use Rattle.table.specs.Check.{Follows}
 use denote.Ref.{now}
--- The index that was read is the running one. Assumes nothing.
 use Rattle.table.proofs.Lowest.{tells-eq-as}
 use native.Mathlib.Omega.{arith}
 use borrow.Author.Needs.{needs}

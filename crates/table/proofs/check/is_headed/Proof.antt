@@ -1,7 +1,6 @@
 -- Both halves were tested. Assumes nothing.
 use Rattle.table.specs.Check.{Headed}
 use denote.Ref.{now}
--- Both halves were tested. Assumes nothing.
 use Rattle.table.proofs.Lowest.{tells-eq-as}
 use native.Mathlib.Omega.{arith}
 use borrow.Author.Needs.{needs}

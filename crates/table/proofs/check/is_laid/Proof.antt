@@ -2,7 +2,6 @@
 use Rattle.table.specs.Check.{Laid}
 use lib.ListN.{length}
 use denote.Ref.{now}
--- Each field was tested. Assumes nothing.
 use Rattle.table.proofs.Lowest.{tells-eq-as}
 use native.Mathlib.Omega.{arith}
 use borrow.Author.Needs.{needs}

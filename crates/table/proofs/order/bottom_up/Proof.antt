@@ -1,5 +1,6 @@
-use Rattle.table.proofs.Lists.{fill-more}
 -- The loop has written the types passed, from the greatest down. Assumes nothing.
+
+use Rattle.table.proofs.Lists.{fill-more}
 use borrow.Author.Needs.{needs}
 use Rattle.table.proofs.Downwards.{downwards}
 use Rattle.table.proofs.Facts.{facts}

@@ -1,5 +1,6 @@
-use denote.Ref.{now}
 -- Read off the rule; an accepted table keeps both numbers small. Assumes nothing.
+
+use denote.Ref.{now}
 use Rattle.table.proofs.Facts.{facts}
 use Rattle.table.proofs.Privileges.{first-within}
 use Rattle.table.specs.Rule.{countIn, countOf}

@@ -1,5 +1,6 @@
-use native.Mathlib.Nat.{add-sub-cancel-left}
 -- The stretch of the rule. Assumes nothing.
+
+use native.Mathlib.Nat.{add-sub-cancel-left}
 use Rattle.table.specs.Rule.{childrenAt}
 use borrow.Author.Needs.{needs}
 use Rattle.table.proofs.rule.children.Statement.{statement}

@@ -1,5 +1,6 @@
-use denote.Ref.{now}
 -- A word of the run is below 2 ^ 16, and past the end stands 0. Assumes nothing.
+
+use denote.Ref.{now}
 use Rattle.table.proofs.Lists.{past-end}
 use borrow.Author.Needs.{needs}
 use Rattle.table.proofs.words.word_at.Statement.{statement}

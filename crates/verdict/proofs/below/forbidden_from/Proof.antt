@@ -1,5 +1,6 @@
-use borrow.Author.Count.{below-more}
 -- The loop has passed no forbidden privilege. Assumes nothing.
+
+use borrow.Author.Count.{below-more}
 use borrow.Author.Needs.{needs}
 use Rattle.verdict.proofs.Lows.{low-none, low-hit}
 use Rattle.verdict.specs.Below.{Range}

@@ -1,8 +1,9 @@
+-- The loop has the least of the children passed. Assumes nothing.
+
 use Prim.Native.Nat.{ℕ, _<_}
 use lib.ListN.{getD}
 use mathlib.Core.Path.{_≡_, ap}
 use Rattle.verdict.proofs.Lows.{least-take, least-keep}
--- The loop has the least of the children passed. Assumes nothing.
 use borrow.Author.Needs.{needs}
 use Rattle.verdict.specs.Below.{Least}
 use native.Mathlib.Omega.{arith}

@@ -1,8 +1,9 @@
+-- The loop keeps the first privilege of the type it stands at. Assumes nothing.
+
 use denote.Ref.{now}
 use Rattle.table.specs.Words.{types}
 use Prim.Native.Nat.{_+_}
 use Rattle.table.proofs.Privileges.{first-start, first-next, first-within}
--- The loop keeps the first privilege of the type it stands at. Assumes nothing.
 use borrow.Author.Needs.{needs}
 use Rattle.table.proofs.Facts.{facts}
 use Rattle.table.proofs.Lists.{fill-more}

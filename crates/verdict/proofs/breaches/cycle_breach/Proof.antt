@@ -1,8 +1,9 @@
+-- The loop has passed no position with a cycle that breaks condition 3. Assumes nothing.
+
 use Rattle.verdict.specs.Reached.{Reached, marked}
 use Rattle.verdict.specs.Marks.{Allowed}
 use mathlib.Core.Bool.{true, false}
 use mathlib.Core.List.{List}
--- The loop has passed no position with a cycle that breaks condition 3. Assumes nothing.
 use borrow.Author.Needs.{needs}
 use Rattle.verdict.proofs.Breached.{CyclesFrom, cycles-start, cycles-more, cycles-none, cycle-first}
 use Rattle.verdict.specs.Visits.{none}

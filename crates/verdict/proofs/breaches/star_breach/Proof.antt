@@ -1,6 +1,7 @@
+-- By the tests on the way; what is found below the child is the lowest. Assumes nothing.
+
 use Rattle.table.specs.Privilege.{insertOf, deleteOf}
 use mathlib.Core.List.{List}
--- By the tests on the way; what is found below the child is the lowest. Assumes nothing.
 use Rattle.verdict.proofs.Breached.{star-closed, star-free, star-first}
 use Rattle.verdict.specs.Breaches.{none}
 use Rattle.table.proofs.Privileges.{insert-in, delete-in}

@@ -1,7 +1,8 @@
+-- The table comes first, then the marks. Assumes nothing.
+
 use Rattle.verdict.proofs.Policies.{marks-refused, marks-fit, table-accepted}
 use Rattle.verdict.specs.Marks.{refused, fits, table, marks}
 use native.Mathlib.Omega.{arith}
--- The table comes first, then the marks. Assumes nothing.
 use Rattle.verdict.specs.Marks.{fit, refused, fits, table, marks}
 use borrow.Author.Needs.{needs}
 use Rattle.verdict.proofs.marks.check_policy.Statement.{statement}
