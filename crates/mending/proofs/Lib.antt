@@ -5,3 +5,4 @@ pub mod Staying
 pub mod Answered
 pub mod Next
 pub mod MendTests
+pub mod MendSamples
