@@ -1,4 +1,4 @@
--- Laws of the definitions of specs/, a file for each notion; the layers above use those marked pub.
+-- Laws of the definitions of specs/, a file for each notion, and tests that compute them; the layers above use what is marked pub.
 pub mod Closed
 pub mod Least
 pub mod Openings
@@ -6,3 +6,4 @@ pub mod Writings
 pub mod Passing
 pub mod Descent
 pub mod Completing
+pub mod Granting

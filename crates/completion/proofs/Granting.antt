@@ -1,0 +1,124 @@
+-- What a policy grants, tested; the completion, computed by that test; and theorem 2 of document 000, that a policy has a completion exactly
+-- if it is clean, and exactly if nothing granted is forbidden. The tests hold of every run of words and of marks. Assumes nothing.
+use Prim.Native.Nat.{ℕ, zero, suc, _<_}
+use mathlib.Core.Path.{_≡_, refl, ap}
+use mathlib.Core.Logic.{inl, inr, _↔_}
+use mathlib.Core.Bool.{Bool, true, false}
+use mathlib.Core.List.{List, [], _∷_}
+use native.Mathlib.Omega.{arith}
+use lib.Dec.{T}
+use lib.ListN.{length, getD}
+use Rattle.table.specs.Words.{types}
+use Rattle.table.specs.Rule.{countOf, childAt}
+use Rattle.table.specs.Privilege.{privileges, insertOf, deleteOf, replaceOf}
+use Rattle.table.proofs.Test.{Test, isEqual, both, either, fails, means, some}
+use Rattle.table.proofs.TableTests.{ofKind, belongs}
+use Rattle.verdict.specs.Marks.{Allowed, Forbidden, Policy}
+use Rattle.verdict.specs.Conditions.{Clean}
+use Rattle.verdict.specs.Forces.{Forces, chain}
+use Rattle.verdict.proofs.Breached.{reached-from, reached-to}
+use Rattle.verdict.proofs.Forced.{clean-forces, forces-clean}
+use Rattle.verdict.proofs.PolicyTests.{below, allowed, reached}
+use Rattle.completion.specs.Completions.{Completes, LeastCompletion}
+use Rattle.completion.specs.Opens.{OpensAt, star, cycle, Opened, Granted}
+use Rattle.completion.specs.Writing.{Decision, allow, forbid, decision}
+use Rattle.completion.proofs.Closed.{opened-forces, Chained, forces-cases}
+use Rattle.completion.proofs.Least.{Completed, completes-clean, completed-least}
+
+-- f 0, f 1 and so on, n numbers
+abbrev tabulate : ℕ → (ℕ → ℕ) → List ℕ
+tabulate zero f = []
+tabulate (suc n) f = f 0 ∷ tabulate n (λ p. f (suc p))
+
+tabulate-length : (n : ℕ) (f : ℕ → ℕ) → length (tabulate n f) ≡ n
+tabulate-length zero f = refl
+tabulate-length (suc n) f = ap suc (tabulate-length n (λ p. f (suc p)))
+
+tabulate-at : (n : ℕ) (f : ℕ → ℕ) (p : ℕ) → p < n → getD (tabulate n f) p 0 ≡ f p
+tabulate-at zero f p l = absurd (omega arith)
+tabulate-at (suc n) f zero l = refl
+tabulate-at (suc n) f (suc p) l = tabulate-at n (λ p. f (suc p)) p (omega arith)
+
+-- the mark that a test decides
+decide-test : {P : Type 0} (t : Test P) → Decision P (decision (t .run))
+decide-test {P} t = go (t .run) (t .out) (t .into)
+  where
+    go : (b : Bool) → (T b → P) → (P → T b) → Decision P (decision b)
+    go true out into = allow (out tt) refl
+    go false out into = forbid into refl
+
+module _ (ws m : List ℕ) where
+  -- what is cheapest to test stands first
+  abbrev opensAt : (x i : ℕ) → Test (OpensAt ws (Allowed m) x i)
+  opensAt x i = means (λ h. elim h [ inl (e, (s, (a, d))) ↦ star s a d e | inr (s, r) ↦ cycle s r ])
+      (λ o. elim o [ star s a d e ↦ inl (e, (s, (a, d))) | cycle s r ↦ inr (s, r) ])
+      (either (both (isEqual i 0) (both (ofKind ws x 4) (both (allowed m (insertOf ws x)) (allowed m (deleteOf ws x)))))
+      (both (ofKind ws x 3) (reached ws m x i i)))
+
+  pub opens-type : {x i : ℕ} → OpensAt ws (Allowed m) x i → x < types ws
+  opens-type (star s a d e) = s .type
+  opens-type (cycle s r) = s .type
+
+  -- a star opens position 0, whatever its number of children
+  pub opens-position : {x i : ℕ} → OpensAt ws (Allowed m) x i → i < suc (countOf ws x)
+  opens-position (star s a d e) = omega arith
+  opens-position (cycle s r) = omega (arith, reached-from r)
+
+  abbrev opened : (y : ℕ) → Test (Opened ws (Allowed m) y)
+  opened y = means (λ h. record { at = h .0; i = h .2 .0; opens = h .2 .2 .0; below = h .2 .2 .1 })
+      (λ o. (o .at, opens-type (o .opens), (o .i, opens-position (o .opens), (o .opens, o .below))))
+      (some (types ws) (λ x. some (suc (countOf ws x)) (λ i. both (opensAt x i) (below ws y (childAt ws x i)))))
+
+  abbrev chained : (p : ℕ) → Test (Chained ws (Allowed m) p)
+  chained p = means
+      (λ h. record {
+        at = h .0;
+        i = h .2 .1 .0;
+        j = h .2 .1 .2 .0;
+        choice = h .2 .0;
+        reached = h .2 .1 .2 .2 .1 .1;
+        apart = h .2 .1 .2 .2 .0;
+        is = h .2 .1 .2 .2 .1 .0;
+      })
+      (λ c. (c .at, c .choice .type, (c .choice, (c .i, reached-from (c .reached), (c .j, reached-to (c .reached), (c .apart, (c .is, c .reached)))))))
+      (some (types ws) (λ x. both (ofKind ws x 3) (some (countOf ws x) (λ i. some (countOf ws x) (λ j.
+      both (fails (isEqual i j)) (both (isEqual p (replaceOf ws x i j)) (reached ws m x i j)))))))
+
+  -- a reached replacement, or a privilege of an opened type
+  abbrev forces : (p : ℕ) → Test (Forces ws (Allowed m) p)
+  forces p = means
+      (λ h. elim h [
+        | inl c ↦ chain (c .at) (c .i) (c .j) (c .choice) (c .reached) (c .apart) (c .is)
+        | inr (y, l, (b, o)) ↦ opened-forces o b
+      ])
+      (λ f. elim (forces-cases f) [ inl (y, b, o) ↦ inr (y, b .type, (b, o)) | inr c ↦ inl c ])
+      (either (chained p) (some (types ws) (λ y. both (belongs ws p y) (opened y))))
+
+  -- T, of the allowed marks
+  abbrev pub granted : (p : ℕ) → Test (Granted ws (Allowed m) p)
+  granted p = either (allowed m p) (forces p)
+
+  -- V marks: 1 where granted, else 2
+  abbrev pub completeBy : List ℕ
+  completeBy = tabulate (privileges ws) (λ p. decision (granted p .run))
+
+  pub complete-by : Completed ws m completeBy
+  complete-by = record {
+    size = tabulate-length (privileges ws) (λ p. decision (granted p .run));
+    each = λ p l. rw (tabulate-at (privileges ws) (λ p. decision (granted p .run)) p l) (decide-test (granted p));
+  }
+
+-- a clean policy has a least completion: in the paper's words, T(A) with all else forbidden is the least-privilege consistent extension
+pub clean-least : {ws m : List ℕ} → Policy ws m → Clean ws m → (n : List ℕ) × LeastCompletion ws m n
+clean-least {ws} {m} pol q = (completeBy ws m, completed-least pol (complete-by ws m) q)
+
+-- clean is T(A) ∩ F empty
+clean-granted : {ws m : List ℕ} → Clean ws m ↔ ((p : ℕ) → Granted ws (Allowed m) p → ¬ Forbidden m p)
+clean-granted = (λ q p g f. elim g [ inl a ↦ omega arith | inr h ↦ clean-forces q p h f ], λ h. forces-clean (λ p f. h p (inr f)))
+
+-- theorem 2 of document 000. "Let P be a partial policy. The following are equivalent: (1) P is quasiconsistent", that is, it has a consistent
+-- total extension: some n completes it; "(2) P is consistent", by the conditions of theorem 1: it is clean; "(3) T(A) ∩ F = ∅": nothing that
+-- is granted is forbidden. The first pair is (2) and (1), the second (2) and (3)
+pub theorem-2 : {ws m : List ℕ} → Policy ws m
+    → (Clean ws m ↔ ((n : List ℕ) × Completes ws m n)) × (Clean ws m ↔ ((p : ℕ) → Granted ws (Allowed m) p → ¬ Forbidden m p))
+theorem-2 pol = ((λ q. let l = clean-least pol q in (l .0, l .1 .completes), λ h. completes-clean (h .1)), clean-granted)
