@@ -11,14 +11,14 @@ use lib.ListN.{length, getD}
 use Rattle.table.specs.Words.{types}
 use Rattle.table.specs.Rule.{countOf, childAt}
 use Rattle.table.specs.Privilege.{privileges, insertOf, deleteOf, replaceOf}
-use Rattle.table.proofs.Test.{Test, isEqual, both, either, fails, means, some}
+use Rattle.table.proofs.Test.{Test, isEqual, both, either, fails, implies, means, some, every}
 use Rattle.table.proofs.TableTests.{ofKind, belongs}
 use Rattle.verdict.specs.Marks.{Allowed, Forbidden, Policy}
 use Rattle.verdict.specs.Conditions.{Clean}
 use Rattle.verdict.specs.Forces.{Forces, chain}
 use Rattle.verdict.proofs.Breached.{reached-from, reached-to}
-use Rattle.verdict.proofs.Forced.{clean-forces, forces-clean}
-use Rattle.verdict.proofs.PolicyTests.{below, allowed, reached}
+use Rattle.verdict.proofs.Forced.{forced-below, clean-forces, forces-clean}
+use Rattle.verdict.proofs.PolicyTests.{below, allowed, forbidden, reached}
 use Rattle.completion.specs.Completions.{Completes, LeastCompletion}
 use Rattle.completion.specs.Opens.{OpensAt, star, cycle, Opened, Granted}
 use Rattle.completion.specs.Writing.{Decision, allow, forbid, decision}
@@ -93,6 +93,11 @@ module _ (ws m : List ℕ) where
       ])
       (λ f. elim (forces-cases f) [ inl (y, b, o) ↦ inr (y, b .type, (b, o)) | inr c ↦ inl c ])
       (either (chained p) (some (types ws) (λ y. both (belongs ws p y) (opened y))))
+
+  -- no forced privilege is forbidden
+  abbrev pub clean : Test (Clean ws m)
+  clean = means (λ h. forces-clean (λ p f b. h p (forced-below f) b f)) (λ q p l b f. clean-forces q p f b)
+      (every (privileges ws) (λ p. implies (forbidden m p) (fails (forces p))))
 
   -- T, of the allowed marks
   abbrev pub granted : (p : ℕ) → Test (Granted ws (Allowed m) p)

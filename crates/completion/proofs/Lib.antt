@@ -7,3 +7,4 @@ pub mod Passing
 pub mod Descent
 pub mod Completing
 pub mod Granting
+pub mod CompleteSamples
