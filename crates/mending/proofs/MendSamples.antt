@@ -1,12 +1,12 @@
 -- The mends of sample policies: S1 to S10 of document 01, and choices of four that need more than one. One table of rows, and one statement,
 -- proved by one computation. Every expected answer was worked out by hand from the stated rule. Assumes nothing.
-use Prim.Native.Nat.{ℕ, zero, suc, _/_, _%_}
-use mathlib.Core.Path.{_≡_, refl, subst}
+use Prim.Native.Nat.{ℕ}
+use mathlib.Core.Path.{_≡_, refl}
 use mathlib.Core.List.{List, [], _∷_, map}
-use lib.ListN.{getD}
 use Rattle.table.specs.Sum.{sumBelow}
 use Rattle.table.specs.Rule.{ruleOf, ruleAt, childrenAt, countOf}
 use Rattle.table.specs.Privilege.{privilegesAt, firstPrivilege, privileges, replaceOf}
+use Rattle.table.proofs.Tables.{Each, each-computed, marksOf, sample, four}
 use Rattle.verdict.specs.Answers.{refusal, breached}
 use Rattle.verdict.specs.Answers as answers
 use Rattle.verdict.specs.declared.Answer.{Answer}
@@ -20,35 +20,11 @@ pub data Row : Type 0 where
   mends : List ℕ → List ℕ → List ℕ → ℕ → Row
   judges : List ℕ → List ℕ → List ℕ → Answer → Row
 
--- the last k digits of a number, before others
-abbrev digits : ℕ → ℕ → List ℕ → List ℕ
-digits zero n s = s
-digits (suc k) n s = digits k (n / 10) (n % 10 ∷ s)
-
--- marks are given as V digits, V being word 7
-abbrev marksOf : List ℕ → ℕ → List ℕ
-marksOf words n = digits (getD words 7 0) n []
-
 abbrev mended : List ℕ → ℕ → ℕ → ℕ → Row
 mended words m n count = mends words (marksOf words m) (marksOf words n) count
 
 abbrev proposed : List ℕ → ℕ → ℕ → Answer → Row
 proposed words m n answer = judges words (marksOf words m) (marksOf words n) answer
-
--- the sample schema of document 01: 0 and 1 are the insert and delete of a layer, 3 its range, 4 to 9 the replacements at the choice of draft,
--- held and final, 10 the text of final
-abbrev sample : List ℕ
-sample =
-    1 ∷ 39 ∷ 8 ∷ 0 ∷ 8 ∷ 7 ∷ 32 ∷ 11
-    ∷ 4 ∷ 1 ∷ 0 ∷ 2 ∷ 3 ∷ 1 ∷ 1 ∷ 0 ∷ 4 ∷ 1 ∷ 0 ∷ 4 ∷ 3 ∷ 3 ∷ 4 ∷ 0 ∷ 0 ∷ 7 ∷ 0 ∷ 0 ∷ 7 ∷ 1 ∷ 0 ∷ 7
-    ∷ 1 ∷ 2 ∷ 3 ∷ 4 ∷ 5 ∷ 6 ∷ 7 ∷ []
-
--- a choice of four empty types: replacing 0 by 1, 2, 3 is privilege 0, 1, 2; 1 by 0, 2, 3 is 3, 4, 5; 2 by 0, 1, 3 is 6, 7, 8; 3 is 9, 10, 11
-abbrev four : List ℕ
-four =
-    1 ∷ 27 ∷ 5 ∷ 0 ∷ 8 ∷ 4 ∷ 23 ∷ 12
-    ∷ 3 ∷ 4 ∷ 0 ∷ 0 ∷ 0 ∷ 4 ∷ 0 ∷ 0 ∷ 4 ∷ 0 ∷ 0 ∷ 4 ∷ 0 ∷ 0 ∷ 4
-    ∷ 1 ∷ 2 ∷ 3 ∷ 4 ∷ []
 
 abbrev pub rows : List Row
 rows =
@@ -84,11 +60,6 @@ rows =
     ∷ proposed sample 11021201000 12021201000 (breached (record { condition = Chain; element = 4; i = 0; j = 2; privilege = 5 }))
     ∷ []
 
--- each row has a property
-abbrev pub Each : (Row → Type 0) → List Row → Type 0
-Each P [] = Unit {0}
-Each P (r ∷ rs) = P r × Each P rs
-
 abbrev pub Right : Row → Type 0
 Right (mends words m n count) = Mends words m n count
 Right (judges words m n answer) = ProposeAnswer words m n answer
@@ -98,14 +69,13 @@ abbrev again : Row → Row
 again (mends words m n count) = let r = mendBy words m in mends words m (r .marks) (r .count)
 again (judges words m n answer) = judges words m n (proposeBy words m n)
 
-again-right : (rs : List Row) → Each Right (map again rs)
-again-right [] = tt
-again-right (mends words m n count ∷ rs) = (mend-by words m, again-right rs)
-again-right (judges words m n answer ∷ rs) = (propose-by words m n, again-right rs)
+again-right : (r : Row) → Right (again r)
+again-right (mends words m n count) = mend-by words m
+again-right (judges words m n answer) = propose-by words m n
 
 computed : map again rows ≡ rows
 unfolding sumBelow ruleOf ruleAt childrenAt countOf privilegesAt firstPrivilege privileges replaceOf
 computed = refl
 
 pub samples : Each Right rows
-samples = subst (Each Right) computed (again-right rows)
+samples = each-computed Right again again-right rows computed

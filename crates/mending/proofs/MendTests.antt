@@ -35,7 +35,8 @@ use Rattle.mending.specs.Proposals.{Kept, changes}
 use Rattle.mending.specs.Answers.{AllKept, ProposeAnswer, refused, unfit, changed, accepted}
 use Rattle.mending.specs.Answers as outcomes
 use Rattle.mending.proofs.Counting.{allowedIn, allowed-less}
-use Rattle.mending.proofs.Mended.{marked-within, takes-allowed, takes-below}
+use Rattle.verdict.proofs.Policies.{marked-within}
+use Rattle.mending.proofs.Mended.{takes-allowed, takes-below}
 
 -- something was found, and it has the property
 abbrev Hits : (ℕ → Type 0) → Found → Type 0

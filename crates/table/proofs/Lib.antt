@@ -11,5 +11,6 @@ pub mod Facts
 pub mod Test
 pub mod Answers
 pub mod TableTests
+pub mod Tables
 pub mod Samples
 pub mod Downwards

@@ -1,13 +1,14 @@
 -- What checking a run of words answers, for the tables of document 01 and for one at least of each number: one table of rows, and one
 -- statement, proved by one computation. Every expected answer was worked out by hand. Assumes nothing.
 use Prim.Native.Nat.{ℕ, zero, suc, _+_, _*_}
-use mathlib.Core.Path.{_≡_, refl, subst}
+use mathlib.Core.Path.{_≡_, refl}
 use mathlib.Core.List.{List, [], _∷_, _++_, map}
 use Rattle.table.specs.Sum.{sumBelow}
 use Rattle.table.specs.Rule.{ruleOf, ruleAt, childrenAt, countOf}
 use Rattle.table.specs.Privilege.{privilegesAt, firstPrivilege, privileges}
 use Rattle.table.specs.Check.{TableAnswer}
 use Rattle.table.proofs.TableTests.{answerOf, answer-of}
+use Rattle.table.proofs.Tables.{Each, each-computed, sampleWith, sample, lone}
 
 -- words, and the number and the place of their answer
 pub record Row : Type 0 where
@@ -44,19 +45,12 @@ followers t (suc n) = from (t + 1) 16 ++ followers (t + 1) n
 abbrev ladder : ℕ → ℕ → List ℕ
 ladder n v = 1 ∷ (56 + 19 * n) ∷ (16 + n) ∷ 0 ∷ 8 ∷ (16 * n) ∷ (56 + 3 * n) ∷ v ∷ choices 0 n ++ leaves 1 (16 * n) 16 ++ followers 0 n
 
--- the sample schema, with V
-abbrev sample : ℕ → List ℕ
-sample v =
-    1 ∷ 39 ∷ 8 ∷ 0 ∷ 8 ∷ 7 ∷ 32 ∷ v
-    ∷ 4 ∷ 1 ∷ 0 ∷ 2 ∷ 3 ∷ 1 ∷ 1 ∷ 0 ∷ 4 ∷ 1 ∷ 0 ∷ 4 ∷ 3 ∷ 3 ∷ 4 ∷ 0 ∷ 0 ∷ 7 ∷ 0 ∷ 0 ∷ 7 ∷ 1 ∷ 0 ∷ 7
-    ∷ 1 ∷ 2 ∷ 3 ∷ 4 ∷ 5 ∷ 6 ∷ 7 ∷ []
-
 abbrev pub rows : List Row
 rows =
     -- the sample schema
-    row (sample 11) 0 11
+    row sample 0 11
     -- a lone empty type
-    ∷ row (1 ∷ 11 ∷ 1 ∷ 0 ∷ 8 ∷ 0 ∷ 11 ∷ 0 ∷ 0 ∷ 0 ∷ 0 ∷ []) 0 0
+    ∷ row lone 0 0
     -- a choice of one child has no privilege
     ∷ row (1 ∷ 15 ∷ 2 ∷ 0 ∷ 8 ∷ 1 ∷ 14 ∷ 0 ∷ 3 ∷ 1 ∷ 0 ∷ 0 ∷ 0 ∷ 1 ∷ 1 ∷ []) 0 0
     -- a choice of 16 children has 16 times 15
@@ -104,30 +98,21 @@ rows =
     -- a lone empty type and a second, which is nobody's child
     ∷ row (1 ∷ 14 ∷ 2 ∷ 0 ∷ 8 ∷ 0 ∷ 14 ∷ 0 ∷ 0 ∷ 0 ∷ 0 ∷ 0 ∷ 0 ∷ 0 ∷ []) 8 1
     -- the sample schema, with 12 in word 7
-    ∷ row (sample 12) 9 0
+    ∷ row (sampleWith 12) 9 0
     -- 18 choices of 16 children and 16 texts: V is 4,336, and word 7 says so
     ∷ row (ladder 18 4336) 9 0
     ∷ []
 
--- each row has a property
-abbrev pub Each : (Row → Type 0) → List Row → Type 0
-Each P [] = Unit {0}
-Each P (r ∷ rs) = P r × Each P rs
-
-abbrev Right : Row → Type 0
+abbrev pub Right : Row → Type 0
 Right r = TableAnswer (r .words) (r .number) (r .place)
 
 -- a row with its answer computed anew
 abbrev again : Row → Row
 again r = let answer = answerOf (r .words) in row (r .words) (answer .number) (answer .place)
 
-again-right : (rs : List Row) → Each Right (map again rs)
-again-right [] = tt
-again-right (r ∷ rs) = (answer-of (r .words), again-right rs)
-
 computed : map again rows ≡ rows
 unfolding sumBelow ruleOf ruleAt childrenAt countOf privilegesAt firstPrivilege privileges
 computed = refl
 
-pub samples : Each (λ r. TableAnswer (r .words) (r .number) (r .place)) rows
-samples = subst (Each Right) computed (again-right rows)
+pub samples : Each Right rows
+samples = each-computed Right again (λ r. answer-of (r .words)) rows computed

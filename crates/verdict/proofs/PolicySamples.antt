@@ -1,14 +1,14 @@
 -- The verdict on sample policies: S1 to S9 of document 01, a chain of four kinds, and the policies of documents 000 and 003. One table of
 -- rows, and one statement, proved by one computation. Every expected answer was worked out by hand from the documents. Assumes nothing.
-use Prim.Native.Nat.{ℕ, zero, suc, _/_, _%_}
-use mathlib.Core.Path.{_≡_, refl, subst}
+use Prim.Native.Nat.{ℕ}
+use mathlib.Core.Path.{_≡_, refl}
 use mathlib.Core.Bool.{Bool, true, _&&_}
 use mathlib.Core.List.{List, [], _∷_, map}
 use lib.Dec.{T}
-use lib.ListN.{getD}
 use Rattle.table.specs.Sum.{sumBelow}
 use Rattle.table.specs.Rule.{ruleOf, ruleAt, childrenAt, countOf}
 use Rattle.table.specs.Privilege.{privilegesAt, firstPrivilege, privileges, replaceOf}
+use Rattle.table.proofs.Tables.{Each, each-computed, marksOf, sample, lone, four, figure, hospital}
 use Rattle.table.proofs.Test.{Test, and-out}
 use Rattle.verdict.specs.Marks.{Policy}
 use Rattle.verdict.specs.Breaches.{noBreach, IsBreach, Verdict}
@@ -22,75 +22,12 @@ pub record Row : Type 0 where
   pub marks : List ℕ
   pub breach : Breach
 
--- the last k digits of a number, before others
-abbrev digits : ℕ → ℕ → List ℕ → List ℕ
-digits zero n s = s
-digits (suc k) n s = digits k (n / 10) (n % 10 ∷ s)
-
--- the marks are given as V digits, V being word 7
 abbrev row : List ℕ → ℕ → Breach → Row
-row words n b = record { words = words; marks = digits (getD words 7 0) n []; breach = b }
+row words n b = record { words = words; marks = marksOf words n; breach = b }
 
 -- a breach: condition, type, i, j, privilege
 abbrev at : Condition → ℕ → ℕ → ℕ → ℕ → Breach
 at c x i j p = record { condition = c; element = x; i = i; j = j; privilege = p }
-
--- the sample schema of document 01
-abbrev sample : List ℕ
-sample =
-    1 ∷ 39 ∷ 8 ∷ 0 ∷ 8 ∷ 7 ∷ 32 ∷ 11
-    ∷ 4 ∷ 1 ∷ 0 ∷ 2 ∷ 3 ∷ 1 ∷ 1 ∷ 0 ∷ 4 ∷ 1 ∷ 0 ∷ 4 ∷ 3 ∷ 3 ∷ 4 ∷ 0 ∷ 0 ∷ 7 ∷ 0 ∷ 0 ∷ 7 ∷ 1 ∷ 0 ∷ 7
-    ∷ 1 ∷ 2 ∷ 3 ∷ 4 ∷ 5 ∷ 6 ∷ 7 ∷ []
-
--- a lone empty type
-abbrev lone : List ℕ
-lone = 1 ∷ 11 ∷ 1 ∷ 0 ∷ 8 ∷ 0 ∷ 11 ∷ 0 ∷ 0 ∷ 0 ∷ 0 ∷ []
-
--- a choice of four empty types: replacing 0 by 1, 2, 3 is privilege 0, 1, 2; 1 by 0, 2, 3 is 3, 4, 5; 2 by 0, 1, 3 is 6, 7, 8; 3 is 9, 10, 11
-abbrev four : List ℕ
-four =
-    1 ∷ 27 ∷ 5 ∷ 0 ∷ 8 ∷ 4 ∷ 23 ∷ 12
-    ∷ 3 ∷ 4 ∷ 0 ∷ 0 ∷ 0 ∷ 4 ∷ 0 ∷ 0 ∷ 4 ∷ 0 ∷ 0 ∷ 4 ∷ 0 ∷ 0 ∷ 4
-    ∷ 1 ∷ 2 ∷ 3 ∷ 4 ∷ []
-
--- document 000, figure 1 and example 1, whose rules are all of our forms; the shared types F and G stand once each. Types, rules, privileges:
---   0 R = A + B + J + K   0 to 11: A by B, J, K; B by A, J, K; J by A, B, K; K by A, B, J
---   1 A = C, D            none
---   2 B = E*              12, 13
---   3 J = G*              14, 15
---   4 K = str             16
---   5 C = F*              17, 18
---   6 D = F*              19, 20
---   7 E = G*              21, 22
---   8 F = str             23
---   9 G = H + I           24: H by I; 25: I by H
---   10 H = str            26
---   11 I = str            27
-abbrev figure : List ℕ
-figure =
-    1 ∷ 57 ∷ 12 ∷ 0 ∷ 8 ∷ 13 ∷ 44 ∷ 28
-    ∷ 3 ∷ 4 ∷ 0 ∷ 2 ∷ 2 ∷ 4 ∷ 4 ∷ 1 ∷ 6 ∷ 4 ∷ 1 ∷ 7 ∷ 1 ∷ 0 ∷ 8 ∷ 4 ∷ 1 ∷ 8
-    ∷ 4 ∷ 1 ∷ 9 ∷ 4 ∷ 1 ∷ 10 ∷ 1 ∷ 0 ∷ 11 ∷ 3 ∷ 2 ∷ 11 ∷ 1 ∷ 0 ∷ 13 ∷ 1 ∷ 0 ∷ 13
-    ∷ 1 ∷ 2 ∷ 3 ∷ 4 ∷ 5 ∷ 6 ∷ 7 ∷ 9 ∷ 8 ∷ 8 ∷ 9 ∷ 10 ∷ 11 ∷ []
-
--- document 003, figure 1, whose rules are all of our forms. Types, rules, privileges:
---   0 hospital = patient*                   0, 1
---   1 patient = name, treatments            none
---   2 name = str                            2
---   3 treatments = treatment*               3, 4
---   4 treatment = drug, diagnosis, date     none
---   5 drug = placebo | presDrug | OTC       5, 6: placebo by presDrug, OTC; 7, 8: presDrug by placebo, OTC; 9, 10: OTC by placebo, presDrug
---   6 diagnosis = str                       11
---   7 date = str                            12
---   8 placebo, empty                        none
---   9 presDrug = str                        13
---   10 OTC = str                            14
-abbrev hospital : List ℕ
-hospital =
-    1 ∷ 51 ∷ 11 ∷ 0 ∷ 8 ∷ 10 ∷ 41 ∷ 15
-    ∷ 4 ∷ 1 ∷ 0 ∷ 2 ∷ 2 ∷ 1 ∷ 1 ∷ 0 ∷ 3 ∷ 4 ∷ 1 ∷ 3 ∷ 2 ∷ 3 ∷ 4 ∷ 3 ∷ 3 ∷ 7
-    ∷ 1 ∷ 0 ∷ 10 ∷ 1 ∷ 0 ∷ 10 ∷ 0 ∷ 0 ∷ 10 ∷ 1 ∷ 0 ∷ 10 ∷ 1 ∷ 0 ∷ 10
-    ∷ 1 ∷ 2 ∷ 3 ∷ 4 ∷ 5 ∷ 6 ∷ 7 ∷ 8 ∷ 9 ∷ 10 ∷ []
 
 abbrev pub rows : List Row
 rows =
@@ -136,28 +73,19 @@ rows =
     ∷ row hospital 12_2_12_21_21_22_2_1_2_1 noBreach
     ∷ []
 
--- each row has a property
-abbrev pub Each : (Row → Type 0) → List Row → Type 0
-Each P [] = Unit {0}
-Each P (r ∷ rs) = P r × Each P rs
-
-abbrev Right : Row → Type 0
+abbrev pub Right : Row → Type 0
 Right r = Verdict (r .words) (r .marks) (r .breach)
 
 -- a row with its verdict computed anew
 abbrev again : Row → Row
 again r = record { words = r .words; marks = r .marks; breach = verdictBy (r .words) (r .marks) }
 
-again-right : (rs : List Row) → Each Right (map again rs)
-again-right [] = tt
-again-right (r ∷ rs) = (verdict-by (r .words) (r .marks), again-right rs)
-
 computed : map again rows ≡ rows
 unfolding sumBelow ruleOf ruleAt childrenAt countOf privilegesAt firstPrivilege privileges replaceOf
 computed = refl
 
-pub samples : Each (λ r. Verdict (r .words) (r .marks) (r .breach)) rows
-samples = subst (Each Right) computed (again-right rows)
+pub samples : Each Right rows
+samples = each-computed Right again (λ r. verdict-by (r .words) (r .marks)) rows computed
 
 -- a test of each row
 abbrev all : {P : Row → Type 0} → ((r : Row) → Test (P r)) → List Row → Bool
