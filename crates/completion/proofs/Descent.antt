@@ -53,6 +53,9 @@ pub record PassedOn (ws : List ℕ) (S : ℕ → Type 0) (order : List ℕ) (k z
   pub is : childAt ws (getD order place 0) at ≡ z
   pub passes : PassesOn ws S (getD order place 0) at
 
+passed-from : {ws : List ℕ} {S : ℕ → Type 0} {order : List ℕ} {j k z : ℕ} (q : PassedOn ws S order k z) → j ≤ q .place → PassedOn ws S order j z
+passed-from q l = record { place = q .place; from = l; until = q .until; at = q .at; within = q .within; is = q .is; passes = q .passes }
+
 -- the types from place k on are done: the flags tell what they pass on, their marks are decided, and the rest is as it was
 pub record Descended (ws marks order : List ℕ) (k : ℕ) (opened old new : List ℕ) : Type 0 where
   pub flags : length opened ≡ 256
@@ -126,9 +129,7 @@ module _ {ws marks order opened old new : List ℕ} {k : ℕ} (a : Accepted ws) 
       here-kids z = (i : ℕ) × (i < length (childrenAt ws (getD order k 0))) × (childAt ws (getD order k 0) i ≡ z) × PassesOn ws (Allowed marks) (getD order k 0) i
 
       out : (z : ℕ) → z < types ws → (isOpen opened z ≡ true) ⊎ here-kids z → PassedOn ws (Allowed marks) order k z
-      out z l (inl e) =
-          let q = told-yes (isOpen opened z) (s .tells z l) e in
-          record { place = q .place; from = omega (arith, q .from); until = q .until; at = q .at; within = q .within; is = q .is; passes = q .passes }
+      out z l (inl e) = let q = told-yes (isOpen opened z) (s .tells z l) e in passed-from q (omega (arith, q .from))
       out z l (inr (i, m, e, g)) = record { place = k; from = omega arith; until = h; at = i; within = m; is = e; passes = g }
 
       into : (z : ℕ) → z < types ws → PassedOn ws (Allowed marks) order k z → (isOpen opened z ≡ true) ⊎ here-kids z
@@ -136,7 +137,7 @@ module _ {ws marks order opened old new : List ℕ} {k : ℕ} (a : Accepted ws) 
         where
           go : (k ≡ q .place) ⊎ (k < q .place) → (isOpen opened z ≡ true) ⊎ here-kids z
           go (inl e) = inr (q .at, rw e (q .within), rw e (q .is), rw e (q .passes))
-          go (inr m) = inl (holds-on (isOpen opened z) (s .tells z l) (record { place = q .place; from = omega arith; until = q .until; at = q .at; within = q .within; is = q .is; passes = q .passes }))
+          go (inr m) = inl (holds-on (isOpen opened z) (s .tells z l) (passed-from q (omega arith)))
 
       own : (j : ℕ) → j < types ws → (k ≡ j) ⊎ (k < j) → (p : ℕ) → Belongs ws p (getD order j 0) → Decision (Granted ws (Allowed marks) p) (getD newer p 0)
       own j m (inl e) p b = d .own .own p (rw e b)

@@ -33,7 +33,7 @@ holds-on true t p = refl
 holds-on false t p = absurd (t p)
 
 -- a flag tells whether it was on, or what cannot be
-pub tells-kept : {A : Type 0} (r : Bool) → ¬ A → Tells ((r ≡ true) ⊎ A) r
+tells-kept : {A : Type 0} (r : Bool) → ¬ A → Tells ((r ≡ true) ⊎ A) r
 tells-kept r d = tells-by r inl (λ e q. elim q [ inl h ↦ true≢false (sym h ∙ e) | inr a ↦ d a ])
 
 pub open-start : {G : ℕ → Type 0} {kids old : List ℕ} → length old ≡ 256 → OpenedSoFar G kids 0 old old

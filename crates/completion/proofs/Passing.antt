@@ -12,7 +12,7 @@ use Rattle.table.specs.Privilege.{privilegesAt, firstPrivilege, privileges, Bel
 use Rattle.table.specs.declared.privilege.Numbering.{Numbering}
 use Rattle.table.specs.Check.{Accepted}
 use Rattle.table.proofs.Lists.{le-or-lt}
-use Rattle.table.proofs.Privileges.{first-next, first-within, belongs-one, edit-belongs, edit-below, edit-of, in-replaceable, replaceable-in, replace-in}
+use Rattle.table.proofs.Privileges.{first-next, first-within, belongs-one, edit-belongs, edit-below, edit-of, insert-in, delete-in, in-replaceable, replaceable-in, replace-in}
 use Rattle.table.proofs.Facts.{facts}
 use Rattle.verdict.specs.Marks.{Allowed}
 use Rattle.verdict.specs.Reached.{Reached, marked, Square}
@@ -20,14 +20,14 @@ use Rattle.verdict.specs.Forces.{chain}
 use Rattle.verdict.proofs.SquareLaws.{marked-told, told-marked}
 use Rattle.verdict.proofs.Forced.{reached-replaceable}
 use Rattle.completion.specs.Opens.{star, cycle, Opened, Granted, PassesOn}
-use Rattle.completion.specs.Passes.{Visited}
+use Rattle.completion.specs.Passes.{Visited, Both}
 use Rattle.completion.specs.Writing.{Decision, KidsOpened, ChoiceWritten, Room, TypeWritten, RangeWritten}
 use Rattle.completion.proofs.Closed.{opened-forces, Chained, forces-cases, step-source}
 use Rattle.completion.proofs.Openings.{kids-as}
 use Rattle.completion.proofs.Writings.{decision-as}
 
 -- the marks from a type's first privilege on are its own
-pub range-own : {ws : List ℕ} {P Q : ℕ → Type 0} {x first n : ℕ} {old new : List ℕ} → x < types ws → first ≡ firstPrivilege ws x → n ≡ privilegesAt ws x
+range-own : {ws : List ℕ} {P Q : ℕ → Type 0} {x first n : ℕ} {old new : List ℕ} → x < types ws → first ≡ firstPrivilege ws x → n ≡ privilegesAt ws x
     → ((p : ℕ) → Belongs ws p x → P p → Q p) → ((p : ℕ) → Belongs ws p x → Q p → P p) → RangeWritten P first (first + n) old new → TypeWritten ws Q x old new
 range-own {ws} {P} {Q} {x} {first} {n} {old} {new} l e f out into w = record {
   size = w .size;
@@ -42,7 +42,7 @@ range-own {ws} {P} {Q} {x} {first} {n} {old} {new} l e f out into w = record {
 
 module _ {ws : List ℕ} {S : ℕ → Type 0} {x : ℕ} (shut : ¬ Opened ws S x) where
   -- at a type that is not opened, and no choice, what is granted is allowed
-  pub granted-plain : kindIn (ruleAt ws x) ≢ 3 → {p : ℕ} → Belongs ws p x → Granted ws S p → S p
+  granted-plain : kindIn (ruleAt ws x) ≢ 3 → {p : ℕ} → Belongs ws p x → Granted ws S p → S p
   granted-plain d b (inl a) = a
   granted-plain d {p} b (inr f) = go (forces-cases f)
     where
@@ -54,7 +54,7 @@ module _ {ws : List ℕ} {S : ℕ → Type 0} {x : ℕ} (shut : ¬ Opened ws S x
           absurd (d (rw q at (c .choice .kind-is)))
 
   -- at a choice that is not opened, what is reached
-  pub granted-reached : {i j : ℕ} → Replaceable ws x i j → Granted ws S (replaceOf ws x i j) → Reached ws S x i j
+  granted-reached : {i j : ℕ} → Replaceable ws x i j → Granted ws S (replaceOf ws x i j) → Reached ws S x i j
   granted-reached r g = elim (step-source (record { can = r; allowed = g })) [ inl o ↦ absurd (shut o) | inr q ↦ q ]
 
   -- a type that is neither a star nor a choice passes nothing on
@@ -70,15 +70,22 @@ module _ {ws : List ℕ} {S : ℕ → Type 0} {x : ℕ} (shut : ¬ Opened ws S x
   star-passes k (inr (cycle s r)) = absurd (omega (arith, k .kind-is, s .kind-is))
 
   -- a choice passes on to the child at i if it can be replaced and replaced back
-  pub choice-passes : IsChoice ws x → {i : ℕ} → PassesOn ws S x i → Reached ws S x i i
+  choice-passes : IsChoice ws x → {i : ℕ} → PassesOn ws S x i → Reached ws S x i i
   choice-passes k (inl o) = absurd (shut o)
   choice-passes k (inr (star s a f z)) = absurd (omega (arith, k .kind-is, s .kind-is))
   choice-passes k (inr (cycle s r)) = r
 
+-- the insert and the delete by a star's numbering are its own
+pub both-star : {ws marks : List ℕ} {x : ℕ} {n : Numbering} → NumberedAs ws x n → Both marks n → Allowed marks (insertOf ws x) × Allowed marks (deleteOf ws x)
+both-star h b = (rw (insert-in h) at (b .insert), rw (delete-in h) at (b .delete))
+
+pub star-both : {ws marks : List ℕ} {x : ℕ} {n : Numbering} → NumberedAs ws x n → Allowed marks (insertOf ws x) × Allowed marks (deleteOf ws x) → Both marks n
+star-both h b = record { insert = rw (insert-in h) (b .0); delete = rw (delete-in h) (b .1) }
+
 -- the child of a star is opened
-pub star-kids : {ws : List ℕ} {S : ℕ → Type 0} {x : ℕ} {old new : List ℕ} → Accepted ws → IsStar ws x → S (insertOf ws x) → S (deleteOf ws x)
+pub star-kids : {ws : List ℕ} {S : ℕ → Type 0} {x : ℕ} {old new : List ℕ} → Accepted ws → IsStar ws x → S (insertOf ws x) × S (deleteOf ws x)
     → KidsOpened (λ i. Unit) (childrenAt ws x) old new → KidsOpened (PassesOn ws S x) (childrenAt ws x) old new
-star-kids {ws} {x = x} a s i d = kids-as (λ k l u. inr (star s i d (first k l))) (λ k l p. tt)
+star-kids {ws} {x = x} a s b = kids-as (λ k l u. inr (star s (b .0) (b .1) (first k l))) (λ k l p. tt)
   where
     first : (k : ℕ) → k < length (childrenAt ws x) → k ≡ 0
     first k l = omega (arith, facts a .children-here x (s .type), facts a .star-one x s)
@@ -127,7 +134,7 @@ module _ {ws : List ℕ} {S : ℕ → Type 0} {x : ℕ} {square : List ℕ} (shu
 
 -- at a type that is visited
 module _ {ws marks kids opened out : List ℕ} {x first : ℕ} (v : Visited ws marks x first kids opened out) where
-  pub visit-count : length kids ≡ countOf ws x
+  visit-count : length kids ≡ countOf ws x
   visit-count = ap length (v .kids-are) ∙ facts (v .policy .accepted) .children-here x (v .type)
 
   -- its children are few, and their numbers are indices of the flags

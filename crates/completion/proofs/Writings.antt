@@ -19,7 +19,7 @@ use Rattle.verdict.specs.Reached.{marked}
 use Rattle.completion.specs.Writing.{Decision, allow, forbid, decision, RowWritten, ChoiceWritten, RangeWritten}
 
 -- what a flag tells, decided
-pub decide : {P : Type 0} (r : Bool) → Tells P r → Decision P (decision r)
+decide : {P : Type 0} (r : Bool) → Tells P r → Decision P (decision r)
 decide true p = allow p refl
 decide false d = forbid d refl
 
@@ -89,7 +89,7 @@ module _ {n : Numbering} {square : List ℕ} where
   }
 
   -- some pairs, and then others
-  pub pairs-join : {U W X : ℕ → ℕ → Type 0} {old new newer : List ℕ} → Pairs n square U old new → Pairs n square W new newer
+  pairs-join : {U W X : ℕ → ℕ → Type 0} {old new newer : List ℕ} → Pairs n square U old new → Pairs n square W new newer
       → ((a b : ℕ) → X a b → W a b ⊎ (U a b × ¬ W a b)) → ((a b : ℕ) → U a b ⊎ W a b → X a b) → Pairs n square X old newer
   pairs-join {U} {W} {X} {old} {new} {newer} s t out into = record {
     size = t .size ∙ s .size;

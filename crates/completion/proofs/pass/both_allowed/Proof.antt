@@ -23,8 +23,7 @@ mark-at-requires : tie.Need-mark-at-requires
 mark-at-requires c κs = search needs
 
 returns : tie.Need-returns
-returns c =
-    λ b. c .if1 .taken (insert-mark (c .before) ∙ b .insert)
+returns c = λ b. c .if1 .taken (insert-mark (c .before) ∙ b .insert)
 
 deletion-requires : tie.Need-deletion-requires
 deletion-requires c κs = search needs

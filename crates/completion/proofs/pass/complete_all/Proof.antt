@@ -20,6 +20,7 @@ Inv-loop words marks out₀ order firsts opened₀ k₀ out opened k = (k ≤ ty
 abbrev μ-loop : tie.MeasureT-loop
 μ-loop words marks out₀ order firsts opened₀ k₀ out opened k = k
 
+-- the order in which each type comes after its children
 order-up : (c : tie.After-bottom-up Inv-loop μ-loop) → BottomUp (now (c .before .before .before .before .args .words)) (c .bottom-up .result)
 order-up c = c .bottom-up .ensures (c .before .before .before .before .pre .0 .accepted)
 
@@ -89,16 +90,15 @@ children-requires c κs = search needs
 complete-type-requires : tie.Need-complete-type-requires Inv-loop μ-loop
 complete-type-requires c κs =
     let loop = c .before .before .before in
-    let start = loop .before .before .before .before .before .before .before .before in
-    let acc = start .pre .0 .accepted in
+    let pre = start loop .pre in
     record {
-      policy = start .pre .0;
+      policy = pre .0;
       type = type loop;
       first-is = first-is loop;
       kids-are = c .before .before .children .ensures;
       size = loop .before .loop .inv .1 .flags;
-      told = descent-told acc (order-up (loop .before .before .before .before)) (stands loop) (place loop);
-      room = omega (arith, start .pre .1, loop .before .loop .inv .1 .size);
+      told = descent-told (pre .0 .accepted) (order-up (order loop)) (stands loop) (place loop);
+      room = omega (arith, pre .1, loop .before .loop .inv .1 .size);
     }
 
 loop-less : tie.Need-loop-less Inv-loop μ-loop
@@ -108,8 +108,7 @@ loop-again : tie.Need-loop-again Inv-loop μ-loop
 loop-again c =
     let done = c .before .before in
     let loop = done .before .before .before .before in
-    let start = loop .before .before .before .before .before .before .before .before in
-    (search needs, descent-more (start .pre .0 .accepted) (order-up (loop .before .before .before .before)) (stands loop) (place loop) (done .complete-type .ensures))
+    (search needs, descent-more (start loop .pre .0 .accepted) (order-up (order loop)) (stands loop) (place loop) (done .complete-type .ensures))
 
 same-length : tie.Need-same-length Inv-loop μ-loop
 same-length c = c .before .loop .inv .1 .size

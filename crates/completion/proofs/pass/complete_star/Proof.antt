@@ -2,20 +2,25 @@
 use mathlib.Core.Logic.{⊎-elim}
 use native.Mathlib.Omega.{arith}
 use borrow.Author.Needs.{needs}
+use denote.Ref.{now}
+use Rattle.table.specs.Privilege.{NumberedAs}
 use Rattle.table.proofs.Lowest.{told-yes, told-no}
-use Rattle.table.proofs.Privileges.{insert-in, delete-in}
 use Rattle.completion.proofs.Openings.{kids-none}
-use Rattle.completion.proofs.Passing.{plain-own, star-passes, star-kids, visit-small, visit-end, visit-fits}
+use Rattle.completion.proofs.Passing.{plain-own, star-passes, both-star, star-both, star-kids, visit-small, visit-end, visit-fits}
 use Rattle.completion.proofs.pass.complete_star.Statement.{statement}
 use Rattle.completion.proofs.pass.complete_star.Tie as tie
+
+-- the numbering is that of the star
+numbered : (c : tie.After-numbers-at) → let a = c .before .before .before .before .before .args in NumberedAs (now (a .words)) (a .x) (c .numbers-at .result)
+numbered c =
+    let visit = c .before .before .before .before .before .pre .0 in
+    c .numbers-at .ensures (visit .policy .accepted) (visit .type) (visit .first-is)
 
 numbers-at-requires : tie.Need-numbers-at-requires
 numbers-at-requires c κs = search needs
 
 both-allowed-requires : tie.Need-both-allowed-requires
-both-allowed-requires c κs =
-    let visit = c .before .before .before .before .before .pre .0 in
-    c .numbers-at .ensures (visit .policy .accepted) (visit .type) (visit .first-is) .low
+both-allowed-requires c κs = numbered c .low
 
 open-all-requires : tie.Need-open-all-requires
 open-all-requires c κs = let visit = c .before .before .before .before .before .before .before .before .pre .0 in (visit .size, visit-small visit)
@@ -41,15 +46,12 @@ returns c =
     let written = c .before .before in
     let joined = written .before .before .before in
     let asked = joined .before .both-allowed in
-    let numbered = joined .before .before in
-    let pre = numbered .before .before .before .before .before .pre in
-    let n = numbered .numbers-at .ensures (pre .0 .policy .accepted) (pre .0 .type) (pre .0 .first-is) in
+    let n = joined .before .before in
+    let pre = n .before .before .before .before .before .pre in
     record {
       kids = ⊎-elim
-          (λ w. let both = told-yes (asked .result) (asked .ensures) (w .0 .taken) in
-          rw (w .3) (star-kids (pre .0 .policy .accepted) (pre .2) (rw (insert-in n) at (both .insert)) (rw (delete-in n) at (both .delete)) (rw (pre .0 .kids-are) at (w .2 .ensures))))
-          (λ w. rw (w .1) (kids-none (pre .0 .size) (λ i l g. let both = star-passes (pre .1) (pre .2) g in
-          told-no (asked .result) (asked .ensures) (w .0 .left) (record { insert = rw (insert-in n) (both .0); delete = rw (delete-in n) (both .1) }))))
+          (λ w. rw (w .3) (star-kids (pre .0 .policy .accepted) (pre .2) (both-star (numbered n) (told-yes (asked .result) (asked .ensures) (w .0 .taken))) (rw (pre .0 .kids-are) at (w .2 .ensures))))
+          (λ w. rw (w .1) (kids-none (pre .0 .size) (λ i l g. told-no (asked .result) (asked .ensures) (w .0 .left) (star-both (numbered n) (star-passes (pre .1) (pre .2) g)))))
           (joined .if1 .came);
       own = plain-own (pre .0) (pre .1) (λ e. omega (arith, e, pre .2 .kind-is)) (written .before .privileges-at .ensures .is) (written .write-range .ensures);
     }

@@ -20,7 +20,10 @@ use Rattle.completion.proofs.pass.complete_type.Statement.{statement}
 use Rattle.completion.proofs.pass.complete_type.Tie as tie
 
 -- the kind of the type is that of the rule that was read
-kind : (c : tie.After-rule-at) {r : Rule} → c .rule-at .result ≡ r → let a = c .before .before .before .before .before .before .before .args in kindIn (ruleAt (now (a .words)) (a .x)) ≡ kindIn r
+abbrev kindHere : tie.After-rule-at → ℕ
+kindHere c = let a = c .before .before .before .before .before .before .before .args in kindIn (ruleAt (now (a .words)) (a .x))
+
+kind : (c : tie.After-rule-at) {r : Rule} → c .rule-at .result ≡ r → kindHere c ≡ kindIn r
 kind c e = ap kindIn (sym (c .rule-at .ensures .is) ∙ e)
 
 -- a type whose flag is not 1 is not opened
@@ -35,10 +38,10 @@ no-tag l (inl e) = omega arith
 no-tag l (inr (inl e)) = omega arith
 no-tag l (inr (inr e)) = omega arith
 
-plain : (c : tie.At-match-keys3) → let a = c .before .before .before .before .before .before .before .before .args in (kindIn (ruleAt (now (a .words)) (a .x)) ≢ 3) × (kindIn (ruleAt (now (a .words)) (a .x)) ≢ 4)
+plain : (c : tie.At-match-keys3) → (kindHere (c .before) ≢ 3) × (kindHere (c .before) ≢ 4)
 plain c = go (c .before .rule-at .result) refl
   where
-    go : (r : Rule) → c .before .rule-at .result ≡ r → let a = c .before .before .before .before .before .before .before .before .args in (kindIn (ruleAt (now (a .words)) (a .x)) ≢ 3) × (kindIn (ruleAt (now (a .words)) (a .x)) ≢ 4)
+    go : (r : Rule) → c .before .rule-at .result ≡ r → (kindHere (c .before) ≢ 3) × (kindHere (c .before) ≢ 4)
     go Empty e = let k = kind (c .before) e in (λ q. omega arith, λ q. omega arith)
     go Text e = let k = kind (c .before) e in (λ q. omega arith, λ q. omega arith)
     go (Sequence f n) e = let k = kind (c .before) e in (λ q. omega arith, λ q. omega arith)

@@ -18,6 +18,7 @@ Inv-loop out₀ marks all from until p₀ out p = RangeWritten (λ q. (all ≡ t
 abbrev μ-loop : tie.MeasureT-loop
 μ-loop out₀ marks all from until p₀ out p = until - p
 
+-- the mark at p is one of the result's
 room : (c : tie.In-loop Inv-loop μ-loop) → c .before .loop .p < length (c .before .loop .out)
 room c = omega (arith, c .before .loop .inv .0 .size)
 
