@@ -1,11 +1,9 @@
 -- By the tests on the way: no breach, or the delete is what the rule takes. Assumes nothing.
-
-use Rattle.mending.proofs.Staying.{Mending}
 use Rattle.mending.specs.Mends.{Takes}
 use Rattle.verdict.specs.Breaches.{FirstBreach}
 use Rattle.verdict.specs.declared.Breach.{Breach}
 use Rattle.mending.proofs.Next.{clean-on, star-none, star-next, star-again}
-use Rattle.mending.proofs.Staying.{mending-take, next-within}
+use Rattle.mending.proofs.Staying.{Mending, mending-take, next-within}
 use Rattle.mending.specs.Taking.{start}
 use Rattle.verdict.proofs.Breached.{star-closed}
 use Rattle.table.proofs.Privileges.{insert-in, delete-in}
@@ -119,7 +117,8 @@ returns-3 c =
 slice-write-m : tie.Need-slice-write-m
 slice-write-m c =
     let word = c .before .before in
-    rw (delete-is (word .before .before .before .before .before .before .before .before)) (next-within (begun word) (taken c))
+    let delete = word .before .before .before .before .before .before .before .before in
+    omega (arith, delete-is delete, delete .deletion .ensures, next-within (begun word) (taken c))
 
 same-length-4 : tie.Need-same-length-4
 same-length-4 c = search needs
