@@ -475,8 +475,9 @@ fn read_cases(mut stream: &[u8]) -> Vec<Case> {
     cases
 }
 
-fn hash(bytes: &[u8]) -> u32 {
-    bytes.iter().fold(2166136261, |h: u32, &byte| (h ^ byte as u32).wrapping_mul(16777619))
+/// Two hexadecimal digits a byte.
+fn hex(bytes: &[u8]) -> String {
+    bytes.iter().map(|byte| format!("{:02x}", byte)).collect()
 }
 
 /// What the five calls answer to a case, and the two results afterwards.
@@ -512,8 +513,8 @@ fn told_text(case: usize, told: &Told) -> String {
     [
         format!("{} check {} {}\n", case, told.check.number, told.check.place),
         format!("{} verdict {}\n", case, answer_text(&told.verdict)),
-        format!("{} complete {} {}\n", case, answer_text(&told.complete), hash(&told.completed)),
-        format!("{} mend {} {}\n", case, answer_text(&told.mend), hash(&told.mended)),
+        format!("{} complete {} {}\n", case, answer_text(&told.complete), hex(&told.completed)),
+        format!("{} mend {} {}\n", case, answer_text(&told.mend), hex(&told.mended)),
         format!("{} propose {}\n", case, answer_text(&told.propose)),
     ]
     .concat()
