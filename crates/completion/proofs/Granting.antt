@@ -18,7 +18,7 @@ use Rattle.verdict.specs.Conditions.{Clean}
 use Rattle.verdict.specs.Forces.{Forces, chain}
 use Rattle.verdict.proofs.Breached.{reached-from, reached-to}
 use Rattle.verdict.proofs.Forced.{forced-below, clean-forces, forces-clean}
-use Rattle.verdict.proofs.PolicyTests.{below, allowed, forbidden, reached}
+use Rattle.verdict.proofs.PolicyTests.{below, allowed, forbidden, policy, reached}
 use Rattle.completion.specs.Completions.{Completes, LeastCompletion}
 use Rattle.completion.specs.Opens.{OpensAt, star, cycle, Opened, Granted}
 use Rattle.completion.specs.Writing.{Decision, allow, forbid, decision}
@@ -127,3 +127,27 @@ clean-granted = (λ q p g f. elim g [ inl a ↦ omega arith | inr h ↦ clean-fo
 pub theorem-2 : {ws m : List ℕ} → Policy ws m
     → (Clean ws m ↔ ((n : List ℕ) × Completes ws m n)) × (Clean ws m ↔ ((p : ℕ) → Granted ws (Allowed m) p → ¬ Forbidden m p))
 theorem-2 pol = ((λ q. let l = clean-least pol q in (l .0, l .1 .completes), λ h. completes-clean (h .1)), clean-granted)
+
+-- words and marks are no policy, or one with no completion, or one with this least completion
+pub data Outcome : Type 0 where
+  unfit : Outcome
+  none : Outcome
+  least : List ℕ → Outcome
+
+abbrev pub Comes : List ℕ → List ℕ → Outcome → Type 0
+Comes ws m unfit = ¬ Policy ws m
+Comes ws m none = Policy ws m × ((n : List ℕ) → ¬ Completes ws m n)
+Comes ws m (least n) = Policy ws m × LeastCompletion ws m n
+
+-- the outcome of words and marks, computed
+abbrev pub outcomeBy : List ℕ → List ℕ → Outcome
+outcomeBy ws m = elim (policy ws m .run) [ false ↦ unfit | true ↦ elim (clean ws m .run) [ false ↦ none | true ↦ least (completeBy ws m) ] ]
+
+pub outcome-by : (ws m : List ℕ) → Comes ws m (outcomeBy ws m)
+outcome-by ws m = go (policy ws m .run) (policy ws m .out) (policy ws m .into) (clean ws m .run) (clean ws m .out) (clean ws m .into)
+  where
+    go : (p : Bool) → (T p → Policy ws m) → (Policy ws m → T p) → (c : Bool) → (T c → Clean ws m) → (Clean ws m → T c)
+        → Comes ws m (elim p [ false ↦ unfit | true ↦ elim c [ false ↦ none | true ↦ least (completeBy ws m) ] ])
+    go false fit known c passes holds = known
+    go true fit known false passes holds = (fit tt, λ n c. holds (completes-clean c))
+    go true fit known true passes holds = (fit tt, completed-least (fit tt) (complete-by ws m) (passes tt))

@@ -1,5 +1,5 @@
--- The verdict on sample policies: S1 to S9 of document 01, a chain of four kinds, and the policies of documents 000 and 003. One table of
--- rows, and one statement, proved by one computation. Every expected answer was worked out by hand from the documents. Assumes nothing.
+-- The verdict on sample policies: a chain of four kinds, and the policies of documents 000 and 003. One table of rows, and one statement,
+-- proved by one computation. Every expected answer was worked out by hand from the documents. S1 to S10 stand in crate samples. Assumes nothing.
 use Prim.Native.Nat.{ℕ}
 use mathlib.Core.Path.{_≡_, refl}
 use mathlib.Core.Bool.{Bool, true, _&&_}
@@ -8,7 +8,7 @@ use lib.Dec.{T}
 use Rattle.table.specs.Sum.{sumBelow}
 use Rattle.table.specs.Rule.{ruleOf, ruleAt, childrenAt, countOf}
 use Rattle.table.specs.Privilege.{privilegesAt, firstPrivilege, privileges, replaceOf}
-use Rattle.table.proofs.Tables.{Each, each-computed, marksOf, sample, lone, four, figure, hospital}
+use Rattle.table.proofs.Tables.{Each, each-computed, marksOf, lone, four, figure, hospital}
 use Rattle.table.proofs.Test.{Test, and-out}
 use Rattle.verdict.specs.Marks.{Policy}
 use Rattle.verdict.specs.Breaches.{noBreach, IsBreach, Verdict}
@@ -31,26 +31,8 @@ at c x i j p = record { condition = c; element = x; i = i; j = j; privilege = p 
 
 abbrev pub rows : List Row
 rows =
-    -- S1: nothing is marked
-    row sample 00000000000 noBreach
-    -- S2: a layer may be inserted and deleted, and its range must not be changed
-    ∷ row sample 11020000000 (at InsertDelete 0 0 0 3)
-    -- S3: nothing is forbidden
-    ∷ row sample 11000000000 noBreach
-    -- S4: a layer may be inserted only
-    ∷ row sample 10020000000 noBreach
-    -- S5: draft by held and held by final are allowed, draft by final is forbidden
-    ∷ row sample 00001201000 (at Chain 4 0 2 5)
-    -- S6: draft by final is unset
-    ∷ row sample 00001001000 noBreach
-    -- S7: held and final may replace each other, and the text of final itself must not be changed
-    ∷ row sample 00000001012 (at Cycle 4 2 2 10)
-    -- S8: that text is unset
-    ∷ row sample 00000001010 noBreach
-    -- S9: both S2 and S5, of which the lower type is first
-    ∷ row sample 11021201000 (at InsertDelete 0 0 0 3)
     -- a table with no privilege
-    ∷ row lone 0 noBreach
+    row lone 0 noBreach
     -- a chain of four kinds: 0 by 1, 1 by 2 and 2 by 3 are allowed, 0 by 3 is forbidden, the shorter cuts are unset
     ∷ row four 102_010_001_000 (at Chain 0 0 3 2)
     -- document 000, examples 2 and 3: A by B, B by J, J by K, K by B and K by J are allowed at R, the insert and delete of every star, I by H

@@ -1,0 +1,65 @@
+-- The loop has put the bytes passed. Assumes nothing.
+use borrow.Author.Needs.{needs}
+use Rattle.lines.proofs.Texts.{Upto, upto-start, upto-more, upto-length, upto-end}
+use Prim.Native.Nat.{_-_}
+use native.Mathlib.Omega.{arith}
+use lib.ListN.{length}
+use Rattle.lines.proofs.put.Statement.{statement}
+use Rattle.lines.proofs.put.Tie as tie
+
+abbrev Inv-loop : tie.InvT-loop
+Inv-loop out₀ at bytes by k₀ out k = Upto out₀ at bytes by k out
+
+abbrev μ-loop : tie.MeasureT-loop
+μ-loop out₀ at bytes by k₀ out k = length bytes - k
+
+loop-holds : tie.Need-loop-holds Inv-loop μ-loop
+loop-holds c = upto-start
+
+shared-slice-read-out : tie.Need-shared-slice-read-out Inv-loop μ-loop
+shared-slice-read-out c = search needs
+
+add-out : tie.Need-add-out Inv-loop μ-loop
+add-out c = record { fits = omega (arith, c .before .before .before .pre .1 (c .before .before .loop .k) (c .before .loop-test .taken)) }
+
+add-out-2 : tie.Need-add-out-2 Inv-loop μ-loop
+add-out-2 c = record { fits = omega (arith, c .before .before .before .pre .0, c .before .loop-test .taken, c .before .before .loop .inv .within) }
+
+slice-write-out : tie.Need-slice-write-out Inv-loop μ-loop
+slice-write-out c = omega (arith, c .before .before .before .pre .0, c .before .loop-test .taken, upto-length (c .before .before .before .pre .0) (c .before .before .loop .inv))
+
+add-k : tie.Need-add-k Inv-loop μ-loop
+add-k c = search needs
+
+loop-less : tie.Need-loop-less Inv-loop μ-loop
+loop-less c = search needs
+
+loop-again : tie.Need-loop-again Inv-loop μ-loop
+loop-again c = upto-more (c .before .before .before .pre .0) (c .before .loop-test .taken) (c .before .before .loop .inv)
+
+add-result : tie.Need-add-result Inv-loop μ-loop
+add-result c = search needs
+
+same-length : tie.Need-same-length Inv-loop μ-loop
+same-length c = upto-length (c .before .before .pre .0) (c .before .loop .inv)
+
+returns : tie.Need-returns Inv-loop μ-loop
+returns c = upto-end (omega arith) (c .before .loop .inv)
+
+pub put-spec : {M : Type 1} → statement M
+put-spec =
+    tie.close
+    (tie.spec
+    Inv-loop
+    μ-loop
+    loop-holds
+    shared-slice-read-out
+    add-out
+    add-out-2
+    slice-write-out
+    add-k
+    loop-less
+    loop-again
+    add-result
+    same-length
+    returns)

@@ -1,0 +1,2 @@
+-- The samples, in one table.
+pub mod Samples
