@@ -1,9 +1,9 @@
 // The least completion of a policy. Contracts cite specs/Answers and specs/Completions.
 ghost use Rattle.completion.specs.Answers.{CompleteAnswer};
 
-pub mod open;
-pub mod pass;
-pub mod write;
+mod open;
+mod pass;
+mod write;
 
 use pass::complete_all;
 use verdict::Answer;

@@ -4,9 +4,9 @@ ghost use mathlib.Core.Path.{_≡_};
 ghost use Rattle.verdict.specs.Answers.{done};
 ghost use Rattle.mending.specs.Answers.{MendAnswer, ProposeAnswer};
 
-pub mod mend_types;
-pub mod proposal;
-pub mod taking;
+mod mend_types;
+mod proposal;
+mod taking;
 
 use table::Found;
 use verdict::Answer;
