@@ -62,13 +62,13 @@ fewest-most n k s (a, b, c) = go (ltb 20 k) refl
         let big : 10 ^ 20 ≤ 10 ^ (k - 1) = let m : 20 ≤ k - 1 = omega arith in pow-le-pow-right (zero-lt-suc 9) m in
         absurd (omega (arith, big, c (omega arith)))
 
-append-byte : (l : List ℕ) (x j : ℕ) → ((i : ℕ) → getD l i 0 < 256) → x < 256 → getD (l ++ (x ∷ [])) j 0 < 256
+append-byte : (l : List ℕ) (x j : ℕ) → ((i : ℕ) → getD l i 0 < 128) → x < 128 → getD (l ++ (x ∷ [])) j 0 < 128
 append-byte [] x zero h s = s
 append-byte [] x (suc j) h s = omega arith
 append-byte (a ∷ l) x zero h s = h 0
 append-byte (a ∷ l) x (suc j) h s = append-byte l x j (λ i. h (suc i)) s
 
-pub digits-bytes : (k n j : ℕ) → getD (digits 10 k n) j 0 < 256
+pub digits-bytes : (k n j : ℕ) → getD (digits 10 k n) j 0 < 128
 digits-bytes zero n j = omega arith
 digits-bytes (suc k) n j =
     append-byte (digits 10 k (n / 10)) (glyph (n % 10)) j (digits-bytes k (n / 10)) (omega (arith, glyph-digit (n % 10) (omega arith)))

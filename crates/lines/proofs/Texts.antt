@@ -39,3 +39,7 @@ module _ {d l : List ℕ} {at by : ℕ} where
 
 pub puts-as : {s t before after : List ℕ} {at r : ℕ} → s ≡ t → Puts s before at after r → Puts t before at after r
 puts-as {before = before} {after = after} {at = at} {r = r} e p = subst (λ (x : List ℕ). Puts x before at after r) e p
+
+-- one outcome
+pub puts-one : {text before a b : List ℕ} {at r s : ℕ} → Puts text before at a r → Puts text before at b s → (a ≡ b) × (r ≡ s)
+puts-one p q = (p .is ∙ sym (q .is), p .end ∙ sym (q .end))
