@@ -1,10 +1,10 @@
 -- Text that is put byte by byte. Assumes nothing.
 use Prim.Native.Nat.{ℕ, suc, _+_, _≤_, _<_}
 use mathlib.Core.Path.{_≡_, sym, ap, subst, _∙_}
-use mathlib.Core.List.{List}
+use mathlib.Core.List.{List, [], _++_, append-assoc}
 use native.Mathlib.Omega.{arith}
-use lib.ListN.{length, getD, set, length-map, List·getD-map}
-use lib.Seq.{paste, paste-zero, paste-suc, length-paste}
+use lib.ListN.{length, getD, set, take, drop, length-append, length-map, List·getD-map}
+use lib.Seq.{paste, paste-zero, paste-suc, length-paste, take-paste, drop-paste, take-length, drop-drop}
 use Rattle.lines.specs.Text.{raised, Puts}
 
 raised-length : (by : ℕ) (l : List ℕ) → length (raised by l) ≡ length l
@@ -39,6 +39,44 @@ module _ {d l : List ℕ} {at by : ℕ} where
 
 pub puts-as : {s t before after : List ℕ} {at r : ℕ} → s ≡ t → Puts s before at after r → Puts t before at after r
 puts-as {before = before} {after = after} {at = at} {r = r} e p = subst (λ (x : List ℕ). Puts x before at after r) e p
+
+pub puts-none : {d : List ℕ} {at : ℕ} → Puts [] d at d at
+puts-none {d} {at} = record { is = paste-zero d at []; end = omega arith }
+
+pub puts-length : {s d e : List ℕ} {at r : ℕ} → at + length s ≤ length d → Puts s d at e r → length e ≡ length d
+puts-length {s} {d} {e} {at} {r} room p = ap length (p .is) ∙ length-paste d at s (length s) room (omega arith)
+
+-- one text behind another
+pub puts-then : {s t d e f : List ℕ} {at r q : ℕ} → at + length s ≤ length d → Puts s d at e r → Puts t e r f q → Puts (s ++ t) d at f q
+puts-then {s} {t} {d} {e} {f} {at} {r} {q} room p o =
+    let first : List ℕ = paste d at s (length s) in
+    let seam : ℕ = at + length s in
+    let both : length (s ++ t) ≡ length s + length t = length-append s t in
+    let front : take seam first ≡ take at d ++ s =
+    take-paste d at s (length s) (omega arith) (omega arith) ∙ ap (λ (l : List ℕ). take at d ++ l) (take-length s) in
+    let back : drop (seam + length t) first ≡ drop (seam + length t) d =
+    sym (drop-drop (length t) seam first) ∙ ap (drop (length t)) (drop-paste d at s (length s) (omega arith) (omega arith)) ∙ drop-drop (length t) seam d in
+    let behind : seam + length t ≡ at + length (s ++ t) = omega (arith, both) in
+    record {
+      is = o .is
+          ∙ ap (λ (l : List ℕ). paste l r t (length t)) (p .is)
+          ∙ ap (λ (n : ℕ). paste first n t (length t)) (p .end)
+          ∙ ap (λ (l : List ℕ). l ++ take (length t) t ++ drop (seam + length t) first) front
+          ∙ ap (λ (l : List ℕ). take at d ++ s ++ l ++ drop (seam + length t) first) (take-length t)
+          ∙ ap (λ (l : List ℕ). take at d ++ s ++ t ++ l) back
+          ∙ ap (λ (l : List ℕ). l ++ drop (seam + length t) d) (append-assoc (take at d) s t)
+          ∙ ap (λ (l : List ℕ). take at d ++ l ++ drop (seam + length t) d) (sym (take-length (s ++ t)))
+          ∙ ap (λ (n : ℕ). take at d ++ take (length (s ++ t)) (s ++ t) ++ drop n d) behind;
+      end = omega (arith, o .end, p .end, both);
+    }
+
+-- what stands at the start of a buffer
+pub puts-first : {s d e : List ℕ} {r : ℕ} → Puts s d 0 e r → take r e ≡ s
+puts-first {s} {d} {e} {r} p =
+    ap (take r) (p .is)
+    ∙ ap (λ (n : ℕ). take n (paste d 0 s (length s))) (p .end)
+    ∙ take-paste d 0 s (length s) (omega arith) (omega arith)
+    ∙ take-length s
 
 -- one outcome
 pub puts-one : {text before a b : List ℕ} {at r s : ℕ} → Puts text before at a r → Puts text before at b s → (a ≡ b) × (r ≡ s)
