@@ -1,8 +1,6 @@
 // Runs the five calls on a stream of cases and prints each answer, and each lent result afterwards. second/README.md has the form of both.
 ghost use Prim.Native.Nat.{_≤_};
 ghost use lib.ListN.{length};
-ghost use mathlib.Core.Path.{_≡_};
-ghost use Rattle.verdict.specs.Breaches.{conditionNumber};
 use completion::complete;
 use mending::judge_mend;
 use mending::mend;
@@ -10,8 +8,8 @@ use table::Found;
 use table::check_table;
 use table::words::lesser;
 use verdict::Answer;
-use verdict::Condition;
 use verdict::judge_policy;
+use verdict::number_of;
 
 fn joined(low: u8, high: u8) -> u16 {
     (low as u16) + 256 * (high as u16)
@@ -62,17 +60,6 @@ fn read_bytes(run: &mut [u8]) -> usize
         k += 1;
     }
     n
-}
-
-fn number_of(condition: Condition) -> usize
-    ensures { λ r. ⌜ r ≡ conditionNumber condition ⌝ }
-{
-    match condition {
-        Condition::None => 0,
-        Condition::InsertDelete => 1,
-        Condition::Chain => 2,
-        Condition::Cycle => 3,
-    }
 }
 
 fn put(n: usize) {

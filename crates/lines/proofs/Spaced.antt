@@ -7,7 +7,7 @@ use native.Mathlib.Omega.{arith}
 use lib.Dec.{ltb}
 use lib.ListN.{length, getD, take, length-append, length-map}
 use lib.Seq.{take-suc, take-length, length-take-le}
-use Rattle.lines.specs.Text.{raised, Raisable, decimalWithin, decimal, numbers, marksText, Puts}
+use Rattle.lines.specs.Text.{raised, Raisable, decimalWithin, decimal, numbers, marksText, line, Puts}
 use Rattle.lines.proofs.Texts.{puts-none, puts-then, puts-length, puts-as}
 
 pub one-raisable : (b by : ℕ) → b + by < 256 → Raisable by (b ∷ [])
@@ -72,6 +72,16 @@ pub marks-length : (ms : List ℕ) → length (marksText ms) ≤ 1 + length ms
 unfolding marksText
 marks-length [] = omega arith
 marks-length (m ∷ ms) = omega (arith, length-map ms (λ (b : ℕ). b + 48))
+
+pub line-length : (word ns ms : List ℕ) → length (line word ns ms) ≤ length word + 21 * length ns + length ms + 2
+line-length word ns ms = omega (
+  arith,
+  length-append (word ++ numbers ns ++ marksText ms) (10 ∷ []),
+  length-append (word ++ numbers ns) (marksText ms),
+  length-append word (numbers ns),
+  numbers-length ns,
+  marks-length ms,
+)
 
 pub marks-none : (ms : List ℕ) → length ms ≡ 0 → [] ≡ marksText ms
 unfolding marksText

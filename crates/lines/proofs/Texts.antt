@@ -3,39 +3,38 @@ use Prim.Native.Nat.{ℕ, suc, _+_, _≤_, _<_}
 use mathlib.Core.Path.{_≡_, sym, ap, subst, _∙_}
 use mathlib.Core.List.{List, [], _++_, append-assoc}
 use native.Mathlib.Omega.{arith}
-use lib.ListN.{length, getD, set, take, drop, length-append, length-map, List·getD-map}
+use lib.ListN.{length, getD, set, take, drop, length-append, length-map}
 use lib.Seq.{paste, paste-zero, paste-suc, length-paste, take-paste, drop-paste, take-length, drop-drop}
 use Rattle.lines.specs.Text.{raised, Puts}
 
-raised-length : (by : ℕ) (l : List ℕ) → length (raised by l) ≡ length l
+pub raised-length : (by : ℕ) (l : List ℕ) → length (raised by l) ≡ length l
 raised-length by l = length-map l (λ (b : ℕ). b + by)
 
--- the first k bytes are put
-pub record Upto (d : List ℕ) (at : ℕ) (l : List ℕ) (by k : ℕ) (out : List ℕ) : Type 0 where
-  pub within : k ≤ length l
-  pub is : out ≡ paste d at (raised by l) k
+-- the first k elements are put
+pub record Filled (d : List ℕ) (at : ℕ) (s : List ℕ) (k : ℕ) (out : List ℕ) : Type 0 where
+  pub within : k ≤ length s
+  pub is : out ≡ paste d at s k
 
-module _ {d l : List ℕ} {at by : ℕ} where
-  pub upto-start : Upto d at l by 0 d
-  upto-start = record { within = omega arith; is = paste-zero d at (raised by l) }
+module _ {d s : List ℕ} {at : ℕ} where
+  pub filled-start : Filled d at s 0 d
+  filled-start = record { within = omega arith; is = paste-zero d at s }
 
-  pub upto-more : {k : ℕ} {out : List ℕ} → at + length l ≤ length d → k < length l → Upto d at l by k out → Upto d at l by (k + 1) (set out (at + k) (getD l k 0 + by))
-  upto-more {k} {out} room h u = let e : suc k ≡ k + 1 = omega arith in record {
+  pub filled-more : {k value : ℕ} {out : List ℕ} (z : ℕ) → at + length s ≤ length d → k < length s → value ≡ getD s k z → Filled d at s k out → Filled d at s (k + 1) (set out (at + k) value)
+  filled-more {k} {value} {out} z room h v f = let e : suc k ≡ k + 1 = omega arith in record {
     within = omega arith;
-    is = ap (λ (o : List ℕ). set o (at + k) (getD l k 0 + by)) (u .is)
-        ∙ ap (set (paste d at (raised by l) k) (at + k)) (sym (List·getD-map (λ (b : ℕ). b + by) l k 0))
-        ∙ paste-suc d at (raised by l) k (0 + by) (omega arith) (omega (arith, raised-length by l))
-        ∙ ap (paste d at (raised by l)) e;
+    is = ap (λ (o : List ℕ). set o (at + k) value) (f .is)
+        ∙ ap (set (paste d at s k) (at + k)) v
+        ∙ paste-suc d at s k z (omega arith) h
+        ∙ ap (paste d at s) e;
   }
 
-  pub upto-length : {k : ℕ} {out : List ℕ} → at + length l ≤ length d → Upto d at l by k out → length out ≡ length d
-  upto-length {k} {out} room u =
-      ap length (u .is) ∙ length-paste d at (raised by l) k (omega (arith, u .within)) (omega (arith, u .within, raised-length by l))
+  pub filled-length : {k : ℕ} {out : List ℕ} → at + length s ≤ length d → Filled d at s k out → length out ≡ length d
+  filled-length {k} {out} room f = ap length (f .is) ∙ length-paste d at s k (omega (arith, f .within)) (f .within)
 
-  pub upto-end : {k : ℕ} {out : List ℕ} → length l ≤ k → Upto d at l by k out → Puts (raised by l) d at out (at + k)
-  upto-end {k} {out} h u =
-      let e : k ≡ length (raised by l) = omega (arith, u .within, raised-length by l) in
-      record { is = u .is ∙ ap (paste d at (raised by l)) e; end = omega (arith, e) }
+  pub filled-end : {k : ℕ} {out : List ℕ} → length s ≤ k → Filled d at s k out → Puts s d at out (at + k)
+  filled-end {k} {out} h f =
+      let e : k ≡ length s = omega (arith, f .within) in
+      record { is = f .is ∙ ap (paste d at s) e; end = omega (arith, e) }
 
 pub puts-as : {s t before after : List ℕ} {at r : ℕ} → s ≡ t → Puts s before at after r → Puts t before at after r
 puts-as {before = before} {after = after} {at = at} {r = r} e p = subst (λ (x : List ℕ). Puts x before at after r) e p

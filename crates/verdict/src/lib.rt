@@ -1,6 +1,7 @@
 // The verdict on a policy: the three conditions, and the first breach of them.
 // Contracts cite specs/Answers for what the call answers, and specs/Conditions and specs/Breaches for what a verdict is.
 ghost use mathlib.Core.Path.{_≡_};
+ghost use Rattle.verdict.specs.Breaches.{conditionNumber};
 ghost use Rattle.verdict.specs.Answers.{refusal, JudgeAnswer};
 
 pub mod below;
@@ -14,6 +15,18 @@ pub enum Condition {
     InsertDelete,
     Chain,
     Cycle,
+}
+
+// The document's number of a condition.
+pub fn number_of(condition: Condition) -> usize
+    ensures { λ r. ⌜ r ≡ conditionNumber condition ⌝ }
+{
+    match condition {
+        Condition::None => 0,
+        Condition::InsertDelete => 1,
+        Condition::Chain => 2,
+        Condition::Cycle => 3,
+    }
 }
 
 // A breach: the condition, the type at which it is broken, the two positions there, and the forbidden privilege. All 0 where there is none.
