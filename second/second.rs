@@ -451,7 +451,7 @@ impl Case {
 
 fn take<'a>(stream: &mut &'a [u8], size: usize) -> &'a [u8] {
     if stream.len() < size {
-        fail("the stream ends within a case");
+        fail("the stream ends within a case or a file");
     }
     let (taken, rest) = stream.split_at(size);
     *stream = rest;
@@ -473,6 +473,18 @@ fn read_cases(mut stream: &[u8]) -> Vec<Case> {
         cases.push(Case { words, marks, out, proposed });
     }
     cases
+}
+
+fn read_files(mut stream: &[u8]) -> Vec<&[u8]> {
+    let mut files = Vec::new();
+    while !stream.is_empty() {
+        files.push(take_run(&mut stream, 1));
+    }
+    files
+}
+
+fn reports(stream: &[u8]) -> String {
+    read_files(stream).into_iter().map(judge).collect()
 }
 
 /// Two hexadecimal digits a byte.
@@ -561,6 +573,51 @@ fn count(stream: &[u8]) -> String {
         fewest = fewest.min(least_number.unwrap_or(0)).min(least_condition.unwrap_or(usize::MAX));
     }
     text + &format!("fewest of what a call can give: {}\n", fewest)
+}
+
+/// What judge finds in a file: the verdict's answer, or the refusal of one that is too long.
+fn found(file: &[u8]) -> Answer {
+    if file.len() > MOST_BYTES {
+        return Answer { number: 2, ..Answer::default() };
+    }
+    let (words, marks) = split_file(file);
+    answer(verdict(&words, marks))
+}
+
+/// What a file can come to, as number and condition: 1 to 11, clean, and the three conditions.
+fn outcomes() -> Vec<(usize, usize)> {
+    let refusals = (1..=11).map(|number| (number, 0));
+    refusals.chain((0..=3).map(|condition| (0, condition))).collect()
+}
+
+fn outcome(file: &[u8]) -> (usize, usize) {
+    let Answer { number, breach, .. } = found(file);
+    (number, breach.condition)
+}
+
+/// How often judge gave each number (before the bar) and each condition (after it).
+fn count_files(stream: &[u8]) -> String {
+    let files = read_files(stream);
+    let all: Vec<(usize, usize)> = files.iter().map(|file| outcome(file)).collect();
+    let of = |wanted: &(usize, usize)| all.iter().filter(|&one| one == wanted).count();
+    let mut numbers = [0; 12];
+    let mut conditions = [0; 4];
+    for &(number, condition) in &all {
+        numbers[number] += 1;
+        conditions[condition] += 1;
+    }
+    let fewest = outcomes().iter().map(of).min().unwrap_or(0);
+    let bytes: usize = files.iter().map(|file| file.len()).sum();
+    let longest = files.iter().map(|file| file.len()).max().unwrap_or(0);
+    let long = |length: usize| files.iter().filter(|file| file.len() == length).count();
+    [
+        count_line("", &(0..12).collect::<Vec<_>>(), &[0, 1, 2, 3]),
+        count_line("judge", &numbers, &conditions),
+        format!("fewest of 1 to 11, clean and the three conditions: {}\n", fewest),
+        format!("{} files, {} bytes, the longest {}; ", files.len(), bytes, longest),
+        format!("{} of 8,192 bytes, {} of 8,193\n", long(MOST_BYTES), long(MOST_BYTES + 1)),
+    ]
+    .concat()
 }
 
 // ---------------------------------------------------------------- chance
@@ -748,6 +805,10 @@ fn shape(r: &mut Random) -> Vec<Type> {
     if r.one_in(600) {
         return full_ladder(r);
     }
+    usual_shape(r)
+}
+
+fn usual_shape(r: &mut Random) -> Vec<Type> {
     let mut types = match r.below(16) {
         0 => dress(r, vec![Vec::new()]),
         1 | 2 => star_of_stars(r),
@@ -1062,13 +1123,17 @@ fn spoil(r: &mut Random, types: &[Type], case: &mut Case) {
 
 fn make_case(r: &mut Random) -> Case {
     let types = shape(r);
-    let words = encode(&types);
+    case_of(r, &types)
+}
+
+fn case_of(r: &mut Random, types: &[Type]) -> Case {
+    let words = encode(types);
     let table = check_table(&words).expect("a shape is an accepted table");
     let marks = policy(r, &table);
     let proposed = proposal(r, &table, &marks);
     let out = lent(r, table.v());
     let mut case = Case { words, marks, out, proposed };
-    spoil(r, &types, &mut case);
+    spoil(r, types, &mut case);
     case
 }
 
@@ -1077,6 +1142,116 @@ fn cases(seed: u64, count: usize) -> Vec<u8> {
     let mut stream = Vec::new();
     for _ in 0..count {
         make_case(&mut r).write(&mut stream);
+    }
+    stream
+}
+
+// ---------------------------------------------------------------- making files
+
+/// Cuts a file: anywhere, in or near the header, or nearly whole.
+fn cut(r: &mut Random, file: &mut Vec<u8>) {
+    let length = file.len();
+    let nearly = length.saturating_sub(1 + r.below(3));
+    let (anywhere, early) = (r.below(length + 1), r.below(2 * HEADER + 2));
+    let tiny = r.below(4);
+    file.truncate(r.pick(&[anywhere, anywhere, early, tiny, nearly]));
+}
+
+fn lengthen(r: &mut Random, file: &mut Vec<u8>) {
+    for _ in 0..r.pick(&[1, 1, 2, 3, 20]) {
+        file.push(r.next() as u8 % 4);
+    }
+}
+
+/// As long as a file may be, or one byte longer; sometimes word 1 is changed too.
+fn stretch_file(r: &mut Random, file: &mut Vec<u8>) {
+    let fill = r.pick(&[0, 1, 2, 255]);
+    file.resize(MOST_BYTES + r.below(2), fill);
+    if r.one_in(2) {
+        bend_length(r, file);
+    }
+}
+
+/// Another number of words in word 1: near it, far from it, or near what the file holds.
+fn bend_length(r: &mut Random, file: &mut [u8]) {
+    if file.len() < 4 {
+        return;
+    }
+    let word = to_words(file)[1];
+    let whole = (file.len() / 2) as u16;
+    let near = r.pick(&[word.wrapping_add(1), word.wrapping_sub(1), whole, whole - 1, whole + 1]);
+    let far = r.pick(&[0, 0, 1, 7, 8, word / 2, word.wrapping_mul(2), 65535]);
+    let other: u16 = r.pick(&[near, far, whole]);
+    file[2..4].copy_from_slice(&other.to_le_bytes());
+}
+
+fn damage(r: &mut Random, file: &mut Vec<u8>) {
+    for _ in 0..r.pick(&[1, 1, 2]) {
+        match r.below(16) {
+            0..=6 => cut(r, file),
+            7..=9 => lengthen(r, file),
+            10 | 11 => stretch_file(r, file),
+            _ => bend_length(r, file),
+        }
+    }
+    file.truncate(MOST_BYTES + 1);
+}
+
+/// The same types without a privilege.
+fn bare(mut types: Vec<Type>) -> Vec<Type> {
+    for it in types.iter_mut() {
+        it.kind = if it.children.is_empty() { EMPTY } else { SEQUENCE };
+    }
+    types
+}
+
+/// More often large, and more often without a privilege, than in the cases.
+fn file_shape(r: &mut Random) -> Vec<Type> {
+    match r.below(64) {
+        0 => large(r, MOST_PRIVILEGES),
+        1 => full_ladder(r),
+        2..=4 => bare(usual_shape(r)),
+        _ => usual_shape(r),
+    }
+}
+
+fn file_of(r: &mut Random, types: &[Type]) -> Vec<u8> {
+    let mut file = case_of(r, types).file();
+    if r.one_in(4) {
+        damage(r, &mut file);
+    }
+    file
+}
+
+fn any_file(r: &mut Random) -> Vec<u8> {
+    let types = file_shape(r);
+    file_of(r, &types)
+}
+
+fn file_with(r: &mut Random, wanted: (usize, usize)) -> Vec<u8> {
+    loop {
+        let types = usual_shape(r);
+        let file = file_of(r, &types);
+        if outcome(&file) == wanted {
+            return file;
+        }
+    }
+}
+
+/// The named files, then random ones, every second of them with the outcome whose turn it is.
+fn random(seed: u64, count: usize, named: &[Vec<u8>]) -> Vec<u8> {
+    let mut r = Random(seed);
+    let mut stream = Vec::new();
+    for file in named {
+        put(&mut stream, file.len(), file);
+    }
+    let outcomes = outcomes();
+    for k in 0..count {
+        let file = match k % 2 {
+            0 => any_file(&mut r),
+            _ => file_with(&mut r, outcomes[k / 2 % outcomes.len()]),
+        };
+        put(&mut stream, file.len(), &file);
     }
     stream
 }
@@ -1376,7 +1551,8 @@ fn self_check(seed: u64, policies: usize) -> String {
 
 // ---------------------------------------------------------------- modes
 
-const USAGE: &str = "modes: judge | cases SEED COUNT | answers | count | files FOLDER | self";
+const USAGE: &str = "modes: judge | cases SEED COUNT | answers | count | files FOLDER \
+    | random SEED COUNT FILE... | reports | count files | self";
 
 fn fail(what: &str) -> ! {
     eprintln!("{}", what);
@@ -1396,6 +1572,14 @@ fn write_files(folder: &str, cases: &[Case]) {
     }
 }
 
+fn read_named(path: &&str) -> Vec<u8> {
+    let file = std::fs::read(path).unwrap_or_else(|_| fail(&format!("cannot read {}", path)));
+    if file.len() > MOST_BYTES + 1 {
+        fail(&format!("{} is over {} bytes", path, MOST_BYTES + 1));
+    }
+    file
+}
+
 fn number(text: &str) -> u64 {
     text.parse().unwrap_or_else(|_| fail(USAGE))
 }
@@ -1412,6 +1596,12 @@ fn main() {
             write_files(folder, &read_cases(&input()));
             Vec::new()
         }
+        ["random", seed, count, ref named @ ..] => {
+            let named: Vec<Vec<u8>> = named.iter().map(read_named).collect();
+            random(number(seed), number(count) as usize, &named)
+        }
+        ["reports"] => reports(&input()).into_bytes(),
+        ["count", "files"] => count_files(&input()).into_bytes(),
         ["self"] => self_check(1, 10_000).into_bytes(),
         _ => fail(USAGE),
     };
