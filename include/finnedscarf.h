@@ -89,7 +89,10 @@ typedef struct {
 /* Checks a table: 0 with V as place, or 1 to 9. */
 finnedscarf_outcome finnedscarf_check_table(const uint16_t *words, size_t words_length);
 
-/* Judges a policy: 0 with the first breach, five zeros if it is clean, or 1 to 11. */
+/*
+ * Judges a policy: 0 with the first breach, five zeros if it is clean, or 1 to 11. The first is that of the lowest type; there condition 2
+ * comes before 3, and then the lowest i, and then the lowest j.
+ */
 finnedscarf_outcome finnedscarf_judge_policy(const uint16_t *words, size_t words_length, const uint8_t *marks, size_t marks_length);
 
 /*
@@ -101,7 +104,9 @@ finnedscarf_outcome finnedscarf_complete(const uint16_t *words, size_t words_len
 
 /*
  * Mends a policy: 0 with a clean policy in the first V bytes of `out`, in which `count` marks went from allowed to forbidden and all
- * others are equal, or 1 to 12. A refusal leaves `out` as it was; else its bytes from V on are kept. A clean policy is copied.
+ * others are equal, or 1 to 12. A refusal leaves `out` as it was; else its bytes from V on are kept. The rule, until the policy is clean:
+ * for the first breach forbid, if of condition 1, the delete; else the replacement of i by the lowest k such that it is allowed, and k is j
+ * or allowed replacements lead from k to j.
  */
 finnedscarf_outcome finnedscarf_mend(const uint16_t *words, size_t words_length, const uint8_t *marks, size_t marks_length,
                                      uint8_t *out, size_t out_length);

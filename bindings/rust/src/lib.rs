@@ -76,7 +76,12 @@ impl fmt::Display for Breach {
     }
 }
 
-/// Why a call was refused. Its text says in words what the number means, and of what the place is one.
+/// Why a call was refused. Its text says in words what the number means and what the place is.
+///
+/// ```
+/// let refusal = finnedscarf::check_table(&[]).unwrap_err();
+/// assert_eq!(refusal.to_string(), "refused with number 1: under 8 words lent, or word 0 is not 1");
+/// ```
 #[derive(Clone, Copy, Debug, PartialEq, Eq)]
 pub struct Refusal {
     /// 1 to 16, as in `include/finnedscarf.h`.
@@ -140,8 +145,8 @@ pub fn complete(words: &[u16], marks: &[u8], out: &mut [u8]) -> Result<(), Refus
     outcome.done().map(|_| ())
 }
 
-/// Mends a policy: writes a clean one into the first V bytes of `out`, whose rest is kept, and gives the number of marks that went from
-/// allowed to forbidden; all others are equal. Refused with 1 to 12.
+/// Mends a policy by the rule that the header states: writes a clean one into the first V bytes of `out`, whose rest is kept, and gives the
+/// number of marks that went from allowed to forbidden; all others are equal. Refused with 1 to 12.
 pub fn mend(words: &[u16], marks: &[u8], out: &mut [u8]) -> Result<usize, Refusal> {
     let outcome = unsafe {
         finnedscarf_mend(words.as_ptr(), words.len(), marks.as_ptr(), marks.len(), out.as_mut_ptr(), out.len())
