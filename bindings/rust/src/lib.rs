@@ -1,0 +1,227 @@
+//! Safe calls of Finnedscarf, the proved policy checker: checks a schema table, judges a policy of edits on it, completes and mends the
+//! policy, and judges a mend that somebody proposes.
+//!
+//! `words` is the schema table and `marks` the policy, one byte for each of its V privileges: [`UNSET`], [`ALLOWED`] or [`FORBIDDEN`].
+//! `include/finnedscarf.h` has the layout of the table and the numbers of its privileges. Every call takes every input: what is no table
+//! or no policy is a [`Refusal`], and a refused call leaves its `out` as it was. No call allocates, and none keeps anything.
+//!
+//! ```
+//! use finnedscarf::{judge_policy, ALLOWED, FORBIDDEN};
+//!
+//! // a star whose child is a text; its privileges are insert, delete, and change the text
+//! let words = [1, 15, 2, 0, 8, 1, 14, 3, 4, 1, 0, 1, 0, 1, 1];
+//! let breach = judge_policy(&words, &[ALLOWED, ALLOWED, FORBIDDEN])?.expect("delete and insert change the text");
+//! assert_eq!((breach.element, breach.privilege), (0, 2));
+//! # Ok::<(), finnedscarf::Refusal>(())
+//! ```
+//!
+//! To link it, `rt staticlib store` makes `target/staticlib/libstore.a` (x86-64 Linux). Cargo finds it there, or in the folder that the
+//! variable `FINNEDSCARF_LIB` names; for rustc it is `-L native=target/staticlib` where this crate is compiled.
+
+use std::error::Error;
+use std::fmt;
+
+/// The mark of a privilege that the policy leaves open.
+pub const UNSET: u8 = 0;
+/// The mark of an allowed privilege.
+pub const ALLOWED: u8 = 1;
+/// The mark of a forbidden privilege.
+pub const FORBIDDEN: u8 = 2;
+
+/// Which of the three conditions a breach breaks.
+#[derive(Clone, Copy, Debug, PartialEq, Eq)]
+pub enum Condition {
+    /// 1: at a star whose insert and delete are both allowed, a privilege below its child is forbidden.
+    InsertDelete,
+    /// 2: at a choice, allowed replacements lead from `i` to `j`, and replacing `i` by `j` is forbidden.
+    Chain,
+    /// 3: at a choice, allowed replacements lead from `i` back to `i`, and a privilege below the child at `i` is forbidden.
+    Cycle,
+}
+
+/// A breach of a condition. A call tells the first: of the lowest type, then of the lowest condition, `i` and `j`.
+#[derive(Clone, Copy, Debug, PartialEq, Eq)]
+pub struct Breach {
+    /// The condition that is broken.
+    pub condition: Condition,
+    /// The type at which it is broken.
+    pub element: usize,
+    /// A position among that type's children; 0 for condition 1.
+    pub i: usize,
+    /// A position among that type's children; 0 for condition 1, and `i` for condition 3.
+    pub j: usize,
+    /// The forbidden replacement for condition 2, else the lowest-numbered forbidden privilege below the child.
+    pub privilege: usize,
+}
+
+impl fmt::Display for Breach {
+    fn fmt(&self, f: &mut fmt::Formatter) -> fmt::Result {
+        let Breach { condition, element, i, j, privilege } = self;
+        match condition {
+            Condition::InsertDelete => write!(
+                f,
+                "condition 1 at type {element}: insert and delete are allowed, and privilege {privilege} below its child is forbidden"
+            ),
+            Condition::Chain => write!(
+                f,
+                "condition 2 at type {element}: allowed replacements lead from position {i} to {j}, and privilege {privilege}, that \
+                 replacement, is forbidden"
+            ),
+            Condition::Cycle => write!(
+                f,
+                "condition 3 at type {element}: allowed replacements lead from position {i} back to it, and privilege {privilege} below \
+                 the child there is forbidden"
+            ),
+        }
+    }
+}
+
+/// Why a call was refused. Its text says in words what the number means and what the place is.
+///
+/// ```
+/// let refusal = finnedscarf::check_table(&[]).unwrap_err();
+/// assert_eq!(refusal.to_string(), "refused with number 1: under 8 words lent, or word 0 is not 1");
+/// ```
+#[derive(Clone, Copy, Debug, PartialEq, Eq)]
+pub struct Refusal {
+    /// 1 to 16, as in `include/finnedscarf.h`.
+    pub number: usize,
+    /// The lowest type or privilege at which the check of this number fails; 0 where the check has no places.
+    pub place: usize,
+    /// The first breach, with number 16 and no other.
+    pub breach: Option<Breach>,
+}
+
+impl fmt::Display for Refusal {
+    fn fmt(&self, f: &mut fmt::Formatter) -> fmt::Result {
+        let Refusal { number, place, breach } = self;
+        write!(f, "refused with number {number}: ")?;
+        match number {
+            1 => write!(f, "under 8 words lent, or word 0 is not 1"),
+            2 => write!(f, "words 1 to 6 are not a table's, or the run lent isn't word 1 long"),
+            3 => write!(f, "kind above 4 at type {place}"),
+            4 => write!(f, "child count wrong for the kind at type {place}"),
+            5 => write!(f, "first child is not the running index at type {place} (one past the last: the total is wrong)"),
+            6 => write!(f, "child out of range or not above its parent at parent {place}"),
+            7 => write!(f, "the same child twice at parent {place}"),
+            8 => write!(f, "type {place} is nobody's child"),
+            9 => write!(f, "over 4,096 privileges, or word 7 is not their number"),
+            10 => write!(f, "not one mark for each privilege"),
+            11 => write!(f, "a mark above 2 at privilege {place}"),
+            12 => write!(f, "result shorter than the number of privileges"),
+            13 => write!(f, "not one proposed mark for each privilege"),
+            14 => write!(f, "a proposed mark above 2 at privilege {place}"),
+            15 => write!(f, "a change other than from 1 to 2 at privilege {place}"),
+            _ => write!(f, "a breach"),
+        }?;
+        match breach {
+            Some(breach) => write!(f, ": {breach}"),
+            None => Ok(()),
+        }
+    }
+}
+
+impl Error for Refusal {}
+
+/// Checks a table, and gives its number of privileges V. Refused with 1 to 9.
+pub fn check_table(words: &[u16]) -> Result<usize, Refusal> {
+    // SAFETY: a pointer and its length, lent for the call; so in each call below, where the borrows keep `out` apart from the rest.
+    let outcome = unsafe { finnedscarf_check_table(words.as_ptr(), words.len()) };
+    outcome.done().map(|done| done.place)
+}
+
+/// Judges a policy, and gives its first breach, or `None` if it is clean. Refused with 1 to 11.
+pub fn judge_policy(words: &[u16], marks: &[u8]) -> Result<Option<Breach>, Refusal> {
+    let outcome = unsafe { finnedscarf_judge_policy(words.as_ptr(), words.len(), marks.as_ptr(), marks.len()) };
+    outcome.done().map(|done| done.breach())
+}
+
+/// Completes a policy: writes the least fully decided policy that keeps every set mark and is clean into the first V bytes of `out`, whose
+/// rest is kept. Refused with 1 to 12, and with 16 if there is none.
+pub fn complete(words: &[u16], marks: &[u8], out: &mut [u8]) -> Result<(), Refusal> {
+    let outcome = unsafe {
+        finnedscarf_complete(words.as_ptr(), words.len(), marks.as_ptr(), marks.len(), out.as_mut_ptr(), out.len())
+    };
+    outcome.done().map(|_| ())
+}
+
+/// Mends a policy by the rule that the header states: writes a clean one into the first V bytes of `out`, whose rest is kept, and gives the
+/// number of marks that went from allowed to forbidden; all others are equal. Refused with 1 to 12.
+pub fn mend(words: &[u16], marks: &[u8], out: &mut [u8]) -> Result<usize, Refusal> {
+    let outcome = unsafe {
+        finnedscarf_mend(words.as_ptr(), words.len(), marks.as_ptr(), marks.len(), out.as_mut_ptr(), out.len())
+    };
+    outcome.done().map(|done| done.count)
+}
+
+/// Judges a proposed mend, and gives the number of changed marks: accepted if each mark is equal or went from allowed to forbidden and the
+/// proposed policy is clean. Refused with 1 to 11 and 13 to 16.
+pub fn judge_mend(words: &[u16], marks: &[u8], proposed: &[u8]) -> Result<usize, Refusal> {
+    let outcome = unsafe {
+        finnedscarf_judge_mend(words.as_ptr(), words.len(), marks.as_ptr(), marks.len(), proposed.as_ptr(), proposed.len())
+    };
+    outcome.done().map(|done| done.count)
+}
+
+/// What crosses the border; fields in the order of crates/store.
+#[repr(C)]
+struct Outcome {
+    number: usize,
+    place: usize,
+    count: usize,
+    condition: usize,
+    element: usize,
+    i: usize,
+    j: usize,
+    privilege: usize,
+}
+
+impl Outcome {
+    fn breach(&self) -> Option<Breach> {
+        let condition = match self.condition {
+            0 => return None,
+            1 => Condition::InsertDelete,
+            2 => Condition::Chain,
+            3 => Condition::Cycle,
+            other => unreachable!("condition {other}"),
+        };
+        Some(Breach { condition, element: self.element, i: self.i, j: self.j, privilege: self.privilege })
+    }
+
+    fn done(self) -> Result<Outcome, Refusal> {
+        match self.number {
+            0 => Ok(self),
+            number => Err(Refusal { number, place: self.place, breach: self.breach() }),
+        }
+    }
+}
+
+#[link(name = "store", kind = "static")]
+extern "C" {
+    fn finnedscarf_check_table(words: *const u16, words_length: usize) -> Outcome;
+    fn finnedscarf_judge_policy(words: *const u16, words_length: usize, marks: *const u8, marks_length: usize) -> Outcome;
+    fn finnedscarf_complete(
+        words: *const u16,
+        words_length: usize,
+        marks: *const u8,
+        marks_length: usize,
+        out: *mut u8,
+        out_length: usize,
+    ) -> Outcome;
+    fn finnedscarf_mend(
+        words: *const u16,
+        words_length: usize,
+        marks: *const u8,
+        marks_length: usize,
+        out: *mut u8,
+        out_length: usize,
+    ) -> Outcome;
+    fn finnedscarf_judge_mend(
+        words: *const u16,
+        words_length: usize,
+        marks: *const u8,
+        marks_length: usize,
+        proposed: *const u8,
+        proposed_length: usize,
+    ) -> Outcome;
+}

@@ -1,0 +1,39 @@
+-- Each exported call has one outcome, and each lent result holds one run afterwards. Assumes nothing.
+use Prim.Native.Nat.{ℕ}
+use mathlib.Core.Path.{_≡_, sym, ap, _∙_}
+use mathlib.Core.List.{List}
+use Rattle.table.proofs.Answers.{answer-one}
+use Rattle.verdict.specs.Answers.{JudgeAnswer}
+use Rattle.verdict.specs.declared.Answer.{Answer}
+use Rattle.verdict.proofs.Judged.{refusal-one, judge-one}
+use Rattle.completion.specs.Answers.{CompleteAnswer}
+use Rattle.completion.proofs.Completing.{complete-one}
+use Rattle.mending.specs.Answers.{MendAnswer, ProposeAnswer}
+use Rattle.mending.proofs.Answered.{mend-one, propose-one}
+use Rattle.store.specs.Outcomes.{outcomeOf, CheckAnswer, Told}
+use Rattle.store.specs.declared.Outcome.{Outcome}
+
+-- one answer, one outcome
+told-one : {P Q : Answer → Type 0} {o p : Outcome} → (s : Told P o) → (t : Told Q p) → s .answer ≡ t .answer → o ≡ p
+told-one s t e = s .is ∙ ap outcomeOf e ∙ sym (t .is)
+
+check-one : {ws : List ℕ} {a b : Answer} → CheckAnswer ws a → CheckAnswer ws b → a ≡ b
+check-one c d = c .rest ∙ refusal-one (answer-one (c .table) (d .table)) ∙ sym (d .rest)
+
+pub check-outcome : {ws : List ℕ} {o p : Outcome} → Told (CheckAnswer ws) o → Told (CheckAnswer ws) p → o ≡ p
+check-outcome s t = told-one s t (check-one (s .promised) (t .promised))
+
+module _ {ws marks : List ℕ} {o p : Outcome} where
+  pub judge-outcome : Told (JudgeAnswer ws marks) o → Told (JudgeAnswer ws marks) p → o ≡ p
+  judge-outcome s t = told-one s t (judge-one (s .promised) (t .promised))
+
+  pub complete-outcome : {out x y : List ℕ} → Told (λ a. CompleteAnswer ws marks out a x) o → Told (λ a. CompleteAnswer ws marks out a y) p
+      → (o ≡ p) × (x ≡ y)
+  complete-outcome s t = let one = complete-one (s .promised) (t .promised) in (told-one s t (one .0), one .1)
+
+  pub mend-outcome : {out x y : List ℕ} → Told (λ a. MendAnswer ws marks out a x) o → Told (λ a. MendAnswer ws marks out a y) p
+      → (o ≡ p) × (x ≡ y)
+  mend-outcome s t = let one = mend-one (s .promised) (t .promised) in (told-one s t (one .0), one .1)
+
+  pub propose-outcome : {proposed : List ℕ} → Told (ProposeAnswer ws marks proposed) o → Told (ProposeAnswer ws marks proposed) p → o ≡ p
+  propose-outcome s t = told-one s t (propose-one (s .promised) (t .promised))

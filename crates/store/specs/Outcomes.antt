@@ -1,0 +1,34 @@
+-- What a call answers to a program in another language: eight numbers (document 01, "Numbers of the answers and their order"). Assumes
+-- nothing.
+use Prim.Native.Nat.{ℕ}
+use mathlib.Core.Path.{_≡_}
+use mathlib.Core.List.{List}
+use Rattle.table.specs.Check.{TableAnswer}
+use Rattle.verdict.specs.Breaches.{conditionNumber}
+use Rattle.verdict.specs.Answers.{refusal}
+use Rattle.verdict.specs.declared.Answer.{Answer}
+use Rattle.store.specs.declared.Outcome.{Outcome}
+
+-- the condition by its number, all else as the answer has it
+abbrev pub outcomeOf : Answer → Outcome
+outcomeOf a = record {
+  number = a .number;
+  place = a .place;
+  count = a .count;
+  condition = conditionNumber (a .breach .condition);
+  element = a .breach .element;
+  i = a .breach .i;
+  j = a .breach .j;
+  privilege = a .breach .privilege;
+}
+
+-- checking a table as an answer: its number and place, the rest 0
+pub record CheckAnswer (ws : List ℕ) (a : Answer) : Type 0 where
+  pub table : TableAnswer ws (a .number) (a .place)
+  pub rest : a ≡ refusal (a .number) (a .place)
+
+-- the outcome is that of an answer as promised
+pub record Told (Promised : Answer → Type 0) (o : Outcome) : Type 0 where
+  pub answer : Answer
+  pub promised : Promised answer
+  pub is : o ≡ outcomeOf answer

@@ -1,0 +1,100 @@
+// The five calls for programs in C and Rust: runs and lengths in, eight numbers out. include/finnedscarf.h declares them.
+// Contracts cite specs/Outcomes for the eight numbers, and the definitions of the crate that makes the call for the answer.
+ghost use mathlib.Core.Path.{_≡_};
+ghost use Rattle.verdict.specs.Answers.{JudgeAnswer};
+ghost use Rattle.verdict.specs.Breaches.{conditionNumber};
+ghost use Rattle.completion.specs.Answers.{CompleteAnswer};
+ghost use Rattle.mending.specs.Answers.{MendAnswer, ProposeAnswer};
+ghost use Rattle.store.specs.Outcomes.{outcomeOf, CheckAnswer, Told};
+use completion::complete;
+use mending::judge_mend;
+use mending::mend;
+use table::check_table;
+use verdict::Answer;
+use verdict::Condition;
+use verdict::judge_policy;
+use verdict::refused;
+
+// An answer as eight numbers: the condition by its number, 0 where there is none.
+#[repr(C)]
+pub struct Outcome {
+    pub number: usize,
+    pub place: usize,
+    pub count: usize,
+    pub condition: usize,
+    pub element: usize,
+    pub i: usize,
+    pub j: usize,
+    pub privilege: usize,
+}
+
+fn number_of(condition: Condition) -> usize
+    ensures { λ r. ⌜ r ≡ conditionNumber condition ⌝ }
+{
+    match condition {
+        Condition::None => 0,
+        Condition::InsertDelete => 1,
+        Condition::Chain => 2,
+        Condition::Cycle => 3,
+    }
+}
+
+fn outcome_of(answer: Answer) -> Outcome
+    ensures { λ r. ⌜ r ≡ outcomeOf answer ⌝ }
+{
+    let breach = answer.breach;
+    let condition = breach.condition;
+    Outcome {
+        number: answer.number as usize,
+        place: answer.place,
+        count: answer.count,
+        condition: number_of(condition),
+        element: breach.element,
+        i: breach.i,
+        j: breach.j,
+        privilege: breach.privilege,
+    }
+}
+
+// Checks a run of words: 0 and V where it is a table, else 1 to 9 and the place. The other six numbers are 0.
+#[no_mangle]
+pub extern "C" fn finnedscarf_check_table(words: &[u16]) -> Outcome
+    ensures { λ r. ⌜ Told (CheckAnswer (now (words .entry))) r ⌝ }
+{
+    let checked = check_table(words);
+    outcome_of(refused(checked.number, checked.place))
+}
+
+// Judges a policy: refuses with 1 to 11, or answers 0 with the first breach, five zeros where there is none.
+#[no_mangle]
+pub extern "C" fn finnedscarf_judge_policy(words: &[u16], marks: &[u8]) -> Outcome
+    ensures { λ r. ⌜ Told (JudgeAnswer (now (words .entry)) (now (marks .entry))) r ⌝ }
+{
+    outcome_of(judge_policy(words, marks))
+}
+
+// Completes a policy with the least permission: refuses with 1 to 12 or 16 and leaves the result as it was, or writes V decided marks into it
+// and keeps its rest.
+#[no_mangle]
+pub extern "C" fn finnedscarf_complete(words: &[u16], marks: &[u8], out: &mut [u8]) -> Outcome
+    ensures { λ r. ⌜ Told (λ a. CompleteAnswer (now (words .entry)) (now (marks .entry)) (now (out .entry)) a (now (out .exit))) r ⌝ }
+{
+    outcome_of(complete(words, marks, out))
+}
+
+// Mends a policy: refuses with 1 to 12 and leaves the result as it was, or writes what the rule gives into it, keeps its rest, and counts the
+// marks taken.
+#[no_mangle]
+pub extern "C" fn finnedscarf_mend(words: &[u16], marks: &[u8], out: &mut [u8]) -> Outcome
+    ensures { λ r. ⌜ Told (λ a. MendAnswer (now (words .entry)) (now (marks .entry)) (now (out .entry)) a (now (out .exit))) r ⌝ }
+{
+    outcome_of(mend(words, marks, out))
+}
+
+// Judges a proposed mend: refuses with 1 to 11 and 13 to 16, or accepts it with the number of changed marks.
+#[no_mangle]
+pub extern "C" fn finnedscarf_judge_mend(words: &[u16], marks: &[u8], proposed: &[u8]) -> Outcome
+    ensures { λ r. ⌜ Told (ProposeAnswer (now (words .entry)) (now (marks .entry)) (now (proposed .entry))) r ⌝ }
+{
+    outcome_of(judge_mend(words, marks, proposed))
+}

@@ -1,0 +1,125 @@
+/*
+ * Finnedscarf: checks a schema table, judges a policy of edits on it, completes and mends the policy, and judges a mend that somebody
+ * proposes. The five calls are proved to answer as said here for every input; nothing checks this header against them but tests/store.
+ *
+ * Build the library with `rt staticlib store` and link target/staticlib/libstore.a (x86-64 Linux).
+ *
+ * What is lent
+ *   Each run is a pointer to its first item and the number of its items. The pointer is never NULL, not even with length 0: lend any
+ *   address of the right type then. `out` overlaps no other run of the call. Nothing else may write to a lent run during the call.
+ *   `words`, `marks` and `proposed` are only read. A call keeps nothing: no pointer, no state, no memory that must be freed.
+ *
+ * The table
+ *   A run of 16-bit words: 8 words of header, three words for each of the E types, then the C entries of the child list.
+ *     word 0  format, 1                        word 4  offset of the type records, 8
+ *     word 1  number of words, 8 + 3E + C      word 5  number of child entries C, 0 to 1024
+ *     word 2  number of types E, 1 to 256      word 6  offset of the child list, 8 + 3E
+ *     word 3  root type, 0                     word 7  number of privileges V, 0 to 4096
+ *   A type's three words: its kind (0 empty, 1 text, 2 sequence, 3 choice, 4 star), its number of children, and the index of its first
+ *   child in the child list. Stretches of children follow one another in type order with no gap. Empty and text have no child, star has
+ *   one, sequence and choice have 1 to 16, all different. A child's number is below E and greater than its parent's, and every type but
+ *   0 is somebody's child.
+ *
+ * The privileges
+ *   Numbered from 0, types in ascending order. Empty and sequence have none. Text has one: change the text. Star has two: insert, then
+ *   delete. A choice of n children has n(n - 1): to replace the child at position i by the kind at position j is number
+ *   first + i(n - 1) + j, less 1 if j is greater than i. Positions count from 0.
+ *
+ * The policy
+ *   V marks, one byte each, as below.
+ */
+#ifndef FINNEDSCARF_H
+#define FINNEDSCARF_H
+
+#include <stddef.h>
+#include <stdint.h>
+
+#ifdef __cplusplus
+extern "C" {
+#endif
+
+/* Marks. */
+enum {
+    FINNEDSCARF_UNSET = 0,
+    FINNEDSCARF_ALLOWED = 1,
+    FINNEDSCARF_FORBIDDEN = 2
+};
+
+/* The number of an answer. Checks are made in this order; the place is the lowest at which the check fails, 0 where none is named. */
+enum {
+    FINNEDSCARF_DONE = 0,             /* done; place: V for a table, else 0 */
+    FINNEDSCARF_FORMAT = 1,           /* under 8 words lent, or word 0 is not 1 */
+    FINNEDSCARF_LAYOUT = 2,           /* words 1 to 6 are not as above, or the run lent isn't word 1 long */
+    FINNEDSCARF_KIND = 3,             /* kind above 4; place: type */
+    FINNEDSCARF_COUNT = 4,            /* child count wrong for the kind; place: type */
+    FINNEDSCARF_STRETCH = 5,          /* first child is not the running index; place: type, or E if the total isn't C */
+    FINNEDSCARF_BOUNDS = 6,           /* child not below E or not above its parent; place: parent */
+    FINNEDSCARF_TWICE = 7,            /* the same child twice; place: parent */
+    FINNEDSCARF_ORPHAN = 8,           /* a type other than 0 that is nobody's child; place: type */
+    FINNEDSCARF_TOTAL = 9,            /* V is over 4096 or word 7 is not V */
+    FINNEDSCARF_MARKS_LENGTH = 10,    /* marks not V long */
+    FINNEDSCARF_MARK = 11,            /* a mark above 2; place: privilege */
+    FINNEDSCARF_SHORT = 12,           /* result shorter than V */
+    FINNEDSCARF_PROPOSED_LENGTH = 13, /* proposed marks not V long */
+    FINNEDSCARF_PROPOSED_MARK = 14,   /* a proposed mark above 2; place: privilege */
+    FINNEDSCARF_CHANGE = 15,          /* a change other than from 1 to 2; place: privilege */
+    FINNEDSCARF_BREACH = 16           /* a breach, which is told; completing: in the policy; judging a mend: in the proposed one */
+};
+
+/* The condition that a breach breaks. */
+enum {
+    FINNEDSCARF_NONE = 0,          /* no breach */
+    FINNEDSCARF_INSERT_DELETE = 1, /* at a star, insert and delete are both allowed, and a privilege below its child is forbidden */
+    FINNEDSCARF_CHAIN = 2,         /* at a choice, allowed replacements lead from i to j, and replacing i by j is forbidden */
+    FINNEDSCARF_CYCLE = 3          /* at a choice, allowed replacements lead from i back to i, and a privilege below it is forbidden */
+};
+
+/* What a call answers. The last five tell the breach, and are 0 where there is none. */
+typedef struct {
+    size_t number;    /* FINNEDSCARF_DONE, or why the call was refused */
+    size_t place;     /* as said at the number */
+    size_t count;     /* marks taken away or changed; 0 in a refusal */
+    size_t condition; /* FINNEDSCARF_NONE to FINNEDSCARF_CYCLE */
+    size_t type;      /* the type at which it is broken */
+    size_t i;         /* position; 0 for condition 1 */
+    size_t j;         /* position; 0 for condition 1, and i for condition 3 */
+    size_t privilege; /* the forbidden replacement for condition 2, else the lowest forbidden privilege below the child */
+} finnedscarf_outcome;
+
+/* Checks a table: 0 with V as place, or 1 to 9. */
+finnedscarf_outcome finnedscarf_check_table(const uint16_t *words, size_t words_length);
+
+/*
+ * Judges a policy: 0 with the first breach, five zeros if it is clean, or 1 to 11. The first is that of the lowest type; there condition 2
+ * comes before 3, and then the lowest i, and then the lowest j.
+ */
+finnedscarf_outcome finnedscarf_judge_policy(const uint16_t *words, size_t words_length, const uint8_t *marks, size_t marks_length);
+
+/*
+ * Completes a policy: 0 with the least fully decided policy that keeps every set mark and is clean in the first V bytes of `out`, or 1 to
+ * 12 or 16. A refusal leaves `out` as it was; else its bytes from V on are kept.
+ */
+finnedscarf_outcome finnedscarf_complete(const uint16_t *words, size_t words_length, const uint8_t *marks, size_t marks_length,
+                                         uint8_t *out, size_t out_length);
+
+/*
+ * Mends a policy: 0 with a clean policy in the first V bytes of `out`, in which `count` marks went from allowed to forbidden and all
+ * others are equal, or 1 to 12. A refusal leaves `out` as it was; else its bytes from V on are kept. The rule, until the policy is clean:
+ * for the first breach forbid, if of condition 1, the delete; else the replacement of i by the lowest k such that it is allowed, and k is j
+ * or allowed replacements lead from k to j.
+ */
+finnedscarf_outcome finnedscarf_mend(const uint16_t *words, size_t words_length, const uint8_t *marks, size_t marks_length,
+                                     uint8_t *out, size_t out_length);
+
+/*
+ * Judges a mend that somebody proposes: 0 with the number of changed marks as `count` if each mark is equal or went from allowed to
+ * forbidden and the proposed policy is clean, or 1 to 11 or 13 to 16.
+ */
+finnedscarf_outcome finnedscarf_judge_mend(const uint16_t *words, size_t words_length, const uint8_t *marks, size_t marks_length,
+                                           const uint8_t *proposed, size_t proposed_length);
+
+#ifdef __cplusplus
+}
+#endif
+
+#endif
