@@ -1,66 +1,16 @@
 // Runs the five calls on a stream of cases and prints each answer, and each lent result afterwards. second/README.md has the form of both.
-ghost use Prim.Native.Nat.{_≤_};
-ghost use lib.ListN.{length};
 use completion::complete;
 use mending::judge_mend;
 use mending::mend;
+use stream::next_length;
+use stream::next_word;
+use stream::read_bytes;
+use stream::read_words;
 use table::Found;
 use table::check_table;
-use table::words::lesser;
 use verdict::Answer;
 use verdict::judge_policy;
 use verdict::number_of;
-
-fn joined(low: u8, high: u8) -> u16 {
-    (low as u16) + 256 * (high as u16)
-}
-
-// The next two bytes, low byte first, or nothing at the end.
-fn next_length() -> Found {
-    let mut pair = [0u8; 2];
-    if io::read_full(0, &mut pair) < 2 {
-        return Found::Nothing;
-    }
-    let length = joined(pair[0], pair[1]);
-    Found::At(length as usize)
-}
-
-fn next_byte() -> u8 {
-    let mut one = [0u8; 1];
-    io::read_full(0, &mut one);
-    one[0]
-}
-
-fn next_word() -> u16 {
-    let low = next_byte();
-    joined(low, next_byte())
-}
-
-// Reads this many words, or as many as there is room for.
-fn read_words(count: usize, words: &mut [u16]) -> usize
-    ensures { λ r. ⌜ r ≤ length (now (words .exit)) ⌝ }
-{
-    let n = lesser(count, words.len());
-    let mut k = 0;
-    while k < n {
-        words[k] = next_word();
-        k += 1;
-    }
-    n
-}
-
-// Reads the next run of bytes, or as many as there is room for.
-fn read_bytes(run: &mut [u8]) -> usize
-    ensures { λ r. ⌜ r ≤ length (now (run .exit)) ⌝ }
-{
-    let n = lesser(next_word() as usize, run.len());
-    let mut k = 0;
-    while k < n {
-        run[k] = next_byte();
-        k += 1;
-    }
-    n
-}
 
 fn put(n: usize) {
     io::write_all(1, b" ");
@@ -132,12 +82,12 @@ fn run_case(case: usize) -> bool {
     let mut words = [0u16; 4096];
     let w = read_words(count, &mut words);
     let mut marks = [0u8; 8192];
-    let m = read_bytes(&mut marks);
+    let m = read_bytes(next_word() as usize, &mut marks);
     let mut out = [0u8; 8192];
-    let o = read_bytes(&mut out);
+    let o = read_bytes(next_word() as usize, &mut out);
     let mut again = out;
     let mut proposed = [0u8; 8192];
-    let p = read_bytes(&mut proposed);
+    let p = read_bytes(next_word() as usize, &mut proposed);
     put_judged(case, &words[0..w], &marks[0..m]);
     put_completed(case, &words[0..w], &marks[0..m], &mut out[0..o]);
     put_mended(case, &words[0..w], &marks[0..m], &mut again[0..o]);

@@ -2,7 +2,6 @@
 // Contracts cite specs/Outcomes for the eight numbers, and the definitions of the crate that makes the call for the answer.
 ghost use mathlib.Core.Path.{_≡_};
 ghost use Rattle.verdict.specs.Answers.{JudgeAnswer};
-ghost use Rattle.verdict.specs.Breaches.{conditionNumber};
 ghost use Rattle.completion.specs.Answers.{CompleteAnswer};
 ghost use Rattle.mending.specs.Answers.{MendAnswer, ProposeAnswer};
 ghost use Rattle.store.specs.Outcomes.{outcomeOf, CheckAnswer, Told};
@@ -11,8 +10,8 @@ use mending::judge_mend;
 use mending::mend;
 use table::check_table;
 use verdict::Answer;
-use verdict::Condition;
 use verdict::judge_policy;
+use verdict::number_of;
 use verdict::refused;
 
 // An answer as eight numbers: the condition by its number, 0 where there is none.
@@ -26,17 +25,6 @@ pub struct Outcome {
     pub i: usize,
     pub j: usize,
     pub privilege: usize,
-}
-
-fn number_of(condition: Condition) -> usize
-    ensures { λ r. ⌜ r ≡ conditionNumber condition ⌝ }
-{
-    match condition {
-        Condition::None => 0,
-        Condition::InsertDelete => 1,
-        Condition::Chain => 2,
-        Condition::Cycle => 3,
-    }
 }
 
 fn outcome_of(answer: Answer) -> Outcome

@@ -1,22 +1,16 @@
--- The loop stays within the run. Assumes nothing.
+-- The loop stays within the words. Assumes nothing.
 use borrow.Author.Needs.{needs}
 use Prim.Native.Nat.{_-_, _≤_}
 use lib.ListN.{length}
 use mathlib.Core.Path.{_≡_}
-use Rattle.cases.proofs.read_bytes.Statement.{statement}
-use Rattle.cases.proofs.read_bytes.Tie as tie
+use Rattle.stream.proofs.read_words.Statement.{statement}
+use Rattle.stream.proofs.read_words.Tie as tie
 
 abbrev Inv-loop : tie.InvT-loop
-Inv-loop run₀ n k₀ run k = (k ≤ n) × (n ≤ length run) × (length run ≡ length run₀)
+Inv-loop count words₀ n k₀ words k = (k ≤ n) × (n ≤ length words) × (length words ≡ length words₀)
 
 abbrev μ-loop : tie.MeasureT-loop
-μ-loop run₀ n k₀ run k = n - k
-
-next-word-requires : tie.Need-next-word-requires Inv-loop μ-loop
-next-word-requires c κs = search needs
-
-cast-lesser : tie.Need-cast-lesser Inv-loop μ-loop
-cast-lesser c = search needs
+μ-loop count words₀ n k₀ words k = n - k
 
 lesser-requires : tie.Need-lesser-requires Inv-loop μ-loop
 lesser-requires c κs = search needs
@@ -24,11 +18,14 @@ lesser-requires c κs = search needs
 loop-holds : tie.Need-loop-holds Inv-loop μ-loop
 loop-holds c = search needs
 
-next-byte-requires : tie.Need-next-byte-requires Inv-loop μ-loop
-next-byte-requires c κs = search needs
+next-word-requires : tie.Need-next-word-requires Inv-loop μ-loop
+next-word-requires c κs = search needs
 
-slice-write-run : tie.Need-slice-write-run Inv-loop μ-loop
-slice-write-run c = search needs
+mul-words : tie.Need-mul-words Inv-loop μ-loop
+mul-words c = search needs
+
+slice-write-words : tie.Need-slice-write-words Inv-loop μ-loop
+slice-write-words c = search needs
 
 add-k : tie.Need-add-k Inv-loop μ-loop
 add-k c = search needs
@@ -45,18 +42,17 @@ same-length c = search needs
 returns : tie.Need-returns Inv-loop μ-loop
 returns c = search needs
 
-pub read-bytes-spec : {M : Type 1} → statement M
-read-bytes-spec =
+pub read-words-spec : {M : Type 1} → statement M
+read-words-spec =
     tie.close
     (tie.spec
     Inv-loop
     μ-loop
-    next-word-requires
-    cast-lesser
     lesser-requires
     loop-holds
-    next-byte-requires
-    slice-write-run
+    next-word-requires
+    mul-words
+    slice-write-words
     add-k
     loop-less
     loop-again
