@@ -5,7 +5,7 @@ ghost use lib.ListN.{length};
 ghost use Rattle.lines.specs.Text.{raised, Raisable, decimal, numbers, marksText, line, Puts};
 
 // Puts bytes, each raised by a number: 0 for text, 48 for digits.
-pub fn put(out: &mut [u8], at: usize, bytes: &[u8], by: u8) -> usize
+fn put(out: &mut [u8], at: usize, bytes: &[u8], by: u8) -> usize
     requires { ⌜ (at + length (now bytes) ≤ length (now out)) × Raisable by (now bytes) ⌝ }
     ensures { λ r. ⌜ Puts (raised by (now (bytes .entry))) (now (out .entry)) at (now (out .exit)) r ⌝ }
 {
@@ -18,7 +18,7 @@ pub fn put(out: &mut [u8], at: usize, bytes: &[u8], by: u8) -> usize
 }
 
 // Puts the decimal digits of a number.
-pub fn put_number(out: &mut [u8], at: usize, n: usize) -> usize
+fn put_number(out: &mut [u8], at: usize, n: usize) -> usize
     requires { ⌜ at + 20 ≤ length (now out) ⌝ }
     ensures { λ r. ⌜ Puts (decimal n) (now (out .entry)) at (now (out .exit)) r ⌝ }
 {
