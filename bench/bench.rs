@@ -3,7 +3,8 @@
 //   time                nanoseconds a call
 //   growth              the same for tables that double
 //   stack               bytes of stack
-//   list [doubling]     what is measured: CALL INPUT and the number of its cases
+//   list                what is measured: CALL INPUT and the number of its cases
+//   tables              the inputs of `growth`
 //   count MAKE CALL INPUT TIMES   makes a call on an input so many times, to be counted from outside
 
 mod calls;
@@ -153,12 +154,16 @@ fn stacks() {
     }
 }
 
-fn list(of: fn(Call) -> Vec<Input>) {
+fn list() {
     for call in CALLS {
-        for input in of(call) {
+        for input in inputs(call) {
             println!("{} {} {}", call.name(), input.name, input.cases.len());
         }
     }
+}
+
+fn tables() {
+    doubling(Call::CheckTable).iter().for_each(|input| println!("{}", input.name));
 }
 
 fn count(make: &str, call: &str, input: &str, times: &str) {
@@ -180,9 +185,9 @@ fn main() {
         ["time"] => time(),
         ["growth"] => growth(),
         ["stack"] => stacks(),
-        ["list"] => list(inputs),
-        ["list", "doubling"] => list(doubling),
+        ["list"] => list(),
+        ["tables"] => tables(),
         ["count", make, call, input, times] => count(make, call, input, times),
-        _ => fail("modes: check | time | growth | stack | list [doubling] | count MAKE CALL INPUT TIMES"),
+        _ => fail("modes: check | time | growth | stack | list | tables | count MAKE CALL INPUT TIMES"),
     }
 }

@@ -43,15 +43,15 @@ fn used(make: &Make, call: Call, case: &Case, paint: u8) -> usize {
     let mut case = case.clone();
     on_stack(end.cast(), &mut Job { make, call, case: &mut case, told: Outcome::default() });
     let bytes = stack.iter().flat_map(|painted| painted.to_ne_bytes());
-    // volatile: the compiler does not know that the call wrote here
-    SIZE - std::hint::black_box(bytes).take_while(|&byte| byte == paint).count()
+    SIZE - bytes.take_while(|&byte| byte == paint).count()
 }
 
 fn nothing(_: &[u16]) -> Outcome {
     Outcome::default()
 }
 
-/// The bytes that the call itself uses, its return address and its arguments on the stack included.
+/// The bytes that the call itself uses, with its return address and the arguments that it is handed on the stack: what a call that does nothing uses
+/// is taken off. Two paints, since a call may write the bytes of one.
 pub fn stack_of(make: &Make, call: Call, case: &Case) -> usize {
     let empty = Make { name: "", check_table: nothing, ..*make };
     let most = |make, call| used(make, call, case, 0xa5).max(used(make, call, case, 0x5a));
