@@ -106,12 +106,12 @@ fn at_each_choice(words: &[u16], square: impl Fn(usize, usize) -> u8, texts: [u8
     marks
 }
 
-/// Every third mark unset, allowed or forbidden, by a small generator.
-fn mixed(v: usize) -> Vec<u8> {
-    let mut state = 1u64;
+/// Marks by chance, out of an urn; the same ones for the same seed.
+fn by_chance(v: usize, urn: &[u8], seed: u64) -> Vec<u8> {
+    let mut state = seed;
     let mut next = || {
         state = state.wrapping_mul(6364136223846793005).wrapping_add(1442695040888963407);
-        [UNSET, ALLOWED, FORBIDDEN][(state >> 33) as usize % 3]
+        urn[(state >> 33) as usize % urn.len()]
     };
     (0..v).map(|_| next()).collect()
 }
@@ -164,7 +164,7 @@ fn sample() -> Input {
 /// A third of the marks each unset, allowed and forbidden; for the verdict and the completion as mended, since those are the clean ones.
 fn ordinary_input(call: Call) -> Input {
     let words = ordinary();
-    let marks = mixed(v_of(&words));
+    let marks = by_chance(v_of(&words), &[UNSET, ALLOWED, FORBIDDEN], 1);
     let proposed = mended(&words, &marks);
     let broken = matches!(call, Call::Mend | Call::JudgeMend);
     let marks = if broken { marks } else { proposed.clone() };
@@ -219,17 +219,30 @@ fn half_changed(words: Vec<u16>) -> Case {
     case(words, full, proposed)
 }
 
-fn largest_input(call: Call) -> Input {
-    Input { name: "largest".to_string(), cases: vec![worst(call, sized(256, 1024, 17))] }
+/// Clean, with a fifth of the marks allowed by chance and the others unset: what is reached can be foretold least.
+fn scattered(words: Vec<u16>, seed: u64) -> Case {
+    let marks = by_chance(v_of(&words), &[ALLOWED, UNSET, UNSET, UNSET, UNSET], seed);
+    case(words, marks.clone(), marks)
+}
+
+/// The largest tables.
+fn largest(call: Call) -> Vec<Input> {
+    let words = || sized(256, 1024, 17);
+    let input = |name: &str, cases| Input { name: name.to_string(), cases };
+    let mut all = vec![input("largest", vec![worst(call, words())])];
+    if matches!(call, Call::JudgePolicy | Call::Complete | Call::JudgeMend) {
+        all.push(input("scattered", (1..=8).map(|seed| scattered(words(), seed)).collect()));
+    }
+    if call == Call::JudgeMend {
+        all.push(input("half-changed", vec![half_changed(words())]));
+    }
+    all
 }
 
 /// The inputs of a call.
 pub fn inputs(call: Call) -> Vec<Input> {
-    let mut all = vec![sample(), ordinary_input(call), largest_input(call)];
-    if call == Call::JudgeMend {
-        let cases = vec![half_changed(sized(256, 1024, 17))];
-        all.push(Input { name: "half-changed".to_string(), cases });
-    }
+    let mut all = vec![sample(), ordinary_input(call)];
+    all.extend(largest(call));
     all
 }
 
