@@ -1,5 +1,5 @@
-//! A second policy checker, written from document 01 alone, by sets and searches.
-//! It exists to be compared with the proved one: see README.md for its modes.
+// A second policy checker, written from document 01 alone, by sets and searches.
+// It exists to be compared with the proved one: see README.md for its modes.
 
 use std::io::{Read, Write};
 

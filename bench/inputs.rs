@@ -1,0 +1,268 @@
+// What is measured: the sample, a table of ordinary size, the largest tables with the worst marks for each call, and tables that double.
+
+use crate::calls::{Call, Case};
+use crate::fast;
+
+const EMPTY: u16 = 0;
+const TEXT: u16 = 1;
+const SEQUENCE: u16 = 2;
+const CHOICE: u16 = 3;
+const STAR: u16 = 4;
+
+const UNSET: u8 = 0;
+const ALLOWED: u8 = 1;
+const FORBIDDEN: u8 = 2;
+
+/// Cases that are run in turn; a time is the mean of one call on them.
+pub struct Input {
+    pub name: String,
+    pub cases: Vec<Case>,
+}
+
+// ---------------------------------------------------------------- tables
+
+struct Type {
+    kind: u16,
+    children: Vec<u16>,
+}
+
+fn privileges_of(it: &Type) -> usize {
+    let n = it.children.len();
+    match it.kind {
+        TEXT => 1,
+        STAR => 2,
+        CHOICE => n * n - n,
+        _ => 0,
+    }
+}
+
+fn encode(types: &[Type]) -> Vec<u16> {
+    let (e, c) = (types.len(), types.iter().map(|it| it.children.len()).sum::<usize>());
+    let v: usize = types.iter().map(privileges_of).sum();
+    let header = [1, 8 + 3 * e + c, e, 0, 8, c, 8 + 3 * e, v];
+    let mut words: Vec<u16> = header.iter().map(|&word| word as u16).collect();
+    let mut first = 0;
+    for it in types {
+        words.extend([it.kind, it.children.len() as u16, first]);
+        first += it.children.len() as u16;
+    }
+    words.extend(types.iter().flat_map(|it| &it.children));
+    words
+}
+
+/// E 40, C 39, V 200: choices of 6, 10 and 8, five stars, fourteen texts.
+fn ordinary() -> Vec<u16> {
+    let mut types = Vec::new();
+    let mut add = |kind, children| types.push(Type { kind, children });
+    add(SEQUENCE, (1..=8).chain(38..=39).collect());
+    add(CHOICE, (9..=14).collect());
+    add(CHOICE, (15..=24).collect());
+    add(CHOICE, (25..=32).collect());
+    (33..=37).for_each(|child| add(STAR, vec![child]));
+    (9..=39).for_each(|leaf| add(if leaf < 23 { TEXT } else { EMPTY }, Vec::new()));
+    encode(&types)
+}
+
+/// A table of e types and c child entries, whose last `choices` types with children are choices and the others sequences. A type with children
+/// has 16. No choice is below another; each has the last 16 types as its children, which are text. So V is 240 for each choice, and 16.
+fn sized(e: usize, c: usize, choices: usize) -> Vec<u16> {
+    let parents = c / 16;
+    let mut types = Vec::new();
+    for t in 0..e {
+        let chosen = t < parents && t + choices >= parents;
+        let children = if t < parents { children_of(e, parents, t) } else { Vec::new() };
+        let kind = if chosen { CHOICE } else { SEQUENCE };
+        let leaf = if t + 16 >= e { TEXT } else { EMPTY };
+        types.push(Type { kind: if t < parents { kind } else { leaf }, children });
+    }
+    encode(&types)
+}
+
+/// The children of type t: the next 16 that have no parent yet, and after those types without children, the last ones.
+fn children_of(e: usize, parents: usize, t: usize) -> Vec<u16> {
+    let mut children: Vec<u16> = (16 * t + 1..=16 * t + 16).filter(|&x| x < e).map(|x| x as u16).collect();
+    let leaves = (parents..e).rev().map(|x| x as u16);
+    for leaf in leaves {
+        if children.len() < 16 && !children.contains(&leaf) {
+            children.push(leaf);
+        }
+    }
+    children.sort();
+    children
+}
+
+// ---------------------------------------------------------------- marks
+
+fn v_of(words: &[u16]) -> usize {
+    words[7] as usize
+}
+
+/// The marks of a choice of 16, the same at each choice of a table of `sized`, and those of its texts, which are the children of each choice.
+fn at_each_choice(words: &[u16], square: impl Fn(usize, usize) -> u8, texts: [u8; 16]) -> Vec<u8> {
+    let positions = || (0..16).flat_map(|i| (0..16).map(move |j| (i, j))).filter(|(i, j)| i != j);
+    let choice: Vec<u8> = positions().map(|(i, j)| square(i, j)).collect();
+    let mut marks: Vec<u8> = choice.repeat((v_of(words) - 16) / 240);
+    marks.extend(texts);
+    marks
+}
+
+/// Marks by chance, out of an urn; the same ones for the same seed.
+fn by_chance(v: usize, urn: &[u8], seed: u64) -> Vec<u8> {
+    let mut state = seed;
+    let mut next = || {
+        state = state.wrapping_mul(6364136223846793005).wrapping_add(1442695040888963407);
+        urn[(state >> 33) as usize % urn.len()]
+    };
+    (0..v).map(|_| next()).collect()
+}
+
+fn mended(words: &[u16], marks: &[u8]) -> Vec<u8> {
+    let mut out = marks.to_vec();
+    fast::mend(words, marks, &mut out);
+    out
+}
+
+fn case(words: Vec<u16>, marks: Vec<u8>, proposed: Vec<u8>) -> Case {
+    let out = vec![UNSET; marks.len()];
+    Case { words, marks, out, proposed }
+}
+
+// ---------------------------------------------------------------- inputs
+
+const SAMPLE: [u16; 39] = [
+    1, 39, 8, 0, 8, 7, 32, 11, 4, 1, 0, 2, 3, 1, 1, 0, 4, 1, 0, 4, 3, 3, 4, 0, 0, 7, 0, 0, 7, 1, 0,
+    7, 1, 2, 3, 4, 5, 6, 7,
+];
+
+/// S1 to S9.
+const SAMPLES: [&str; 9] = [
+    "00000000000",
+    "11020000000",
+    "11000000000",
+    "10020000000",
+    "00001201000",
+    "00001001000",
+    "00000001012",
+    "00000001010",
+    "11021201000",
+];
+
+fn digits(text: &str) -> Vec<u8> {
+    text.bytes().map(|byte| byte - b'0').collect()
+}
+
+/// S1 to S9 in turn; the proposed marks are those of the mend.
+fn sample() -> Input {
+    let one = |text: &&str| {
+        let marks = digits(text);
+        let proposed = mended(&SAMPLE, &marks);
+        case(SAMPLE.to_vec(), marks, proposed)
+    };
+    Input { name: "sample".to_string(), cases: SAMPLES.iter().map(one).collect() }
+}
+
+/// A third of the marks each unset, allowed and forbidden; for the verdict and the completion as mended, since those are the clean ones.
+fn ordinary_input(call: Call) -> Input {
+    let words = ordinary();
+    let marks = by_chance(v_of(&words), &[UNSET, ALLOWED, FORBIDDEN], 1);
+    let proposed = mended(&words, &marks);
+    let broken = matches!(call, Call::Mend | Call::JudgeMend);
+    let marks = if broken { marks } else { proposed.clone() };
+    Input { name: "ordinary".to_string(), cases: vec![case(words, marks, proposed)] }
+}
+
+/// The marks of a choice of 16 of which the mend takes most, of those that a search by chance and improvement found: 198 of 216 allowed ones. If all
+/// are allowed it takes 120. Row i, column j: the mark of the replacement of i by j.
+const MOST_TAKEN: [&[u8; 16]; 16] = [
+    b".111211111111111",
+    b"1.11111111111121",
+    b"11.1121111111111",
+    b"112.111111111111",
+    b"1211.11111111111",
+    b"12111.1111111111",
+    b"121111.111111111",
+    b"1211211.11111111",
+    b"12112111.1111111",
+    b"211111111.111111",
+    b"2111111111.11111",
+    b"21111111101.1111",
+    b"211111111121.111",
+    b"2111111112111.11",
+    b"21111111121111.1",
+    b"211111111211121.",
+];
+
+/// The marks of the children's texts that go with it.
+const MOST_TAKEN_TEXTS: &[u8; 16] = b"2212122222222221";
+
+fn most_taken(words: &[u16]) -> Vec<u8> {
+    let texts = MOST_TAKEN_TEXTS.map(|digit| digit - b'0');
+    at_each_choice(words, |i, j| MOST_TAKEN[i][j] - b'0', texts)
+}
+
+/// The worst marks for a call on a table of `sized`.
+fn worst(call: Call, words: Vec<u16>) -> Case {
+    let marks = match call {
+        Call::Mend => most_taken(&words),
+        // Clean, so that all is visited; each choice fully connected, so that each row joins each row; no choice is opened by another. A
+        // proposal of the same marks is accepted.
+        _ => at_each_choice(&words, |_, _| ALLOWED, [ALLOWED; 16]),
+    };
+    case(words, marks.clone(), marks)
+}
+
+/// Accepted, with half of the marks changed: only replacements by an earlier kind are left.
+fn half_changed(words: Vec<u16>) -> Case {
+    let full = at_each_choice(&words, |_, _| ALLOWED, [ALLOWED; 16]);
+    let down = |i, j| if j < i { ALLOWED } else { FORBIDDEN };
+    let proposed = at_each_choice(&words, down, [FORBIDDEN; 16]);
+    case(words, full, proposed)
+}
+
+/// Clean, with a fifth of the marks allowed by chance and the others unset: what is reached can be foretold least.
+fn scattered(words: Vec<u16>, seed: u64) -> Case {
+    let marks = by_chance(v_of(&words), &[ALLOWED, UNSET, UNSET, UNSET, UNSET], seed);
+    case(words, marks.clone(), marks)
+}
+
+/// The largest tables.
+fn largest(call: Call) -> Vec<Input> {
+    let words = || sized(256, 1024, 17);
+    let input = |name: &str, cases| Input { name: name.to_string(), cases };
+    let mut all = vec![input("largest", vec![worst(call, words())])];
+    if matches!(call, Call::JudgePolicy | Call::Complete | Call::JudgeMend) {
+        all.push(input("scattered", (1..=8).map(|seed| scattered(words(), seed)).collect()));
+    }
+    if call == Call::JudgeMend {
+        all.push(input("half-changed", vec![half_changed(words())]));
+    }
+    all
+}
+
+/// The inputs of a call.
+pub fn inputs(call: Call) -> Vec<Input> {
+    let mut all = vec![sample(), ordinary_input(call)];
+    all.extend(largest(call));
+    all
+}
+
+/// Tables in which E doubles, then C, then V, with the worst marks for a call.
+pub fn doubling(call: Call) -> Vec<Input> {
+    let sizes = [
+        (32, 256, 1),
+        (64, 256, 1),
+        (128, 256, 1),
+        (256, 256, 1),
+        (256, 512, 1),
+        (256, 1024, 1),
+        (256, 1024, 2),
+        (256, 1024, 4),
+        (256, 1024, 8),
+        (256, 1024, 16),
+    ];
+    let input = |&(e, c, choices): &(usize, usize, usize)| Input {
+        name: format!("E{}-C{}-V{}", e, c, 240 * choices + 16),
+        cases: vec![worst(call, sized(e, c, choices))],
+    };
+    sizes.iter().map(input).collect()
+}
