@@ -21,7 +21,7 @@ pub fn open_all(opened: &mut [u8; 256], kids: &[u16])
 }
 
 // Opens each child from which the square leads back to it.
-pub fn open_cycles(opened: &mut [u8; 256], kids: &[u16], square: &[u8; 256])
+pub fn open_cycles(opened: &mut [u8; 256], kids: &[u16], square: &[u16; 16])
     requires { ⌜ (length (now opened) ≡ 256) × (length (now kids) ≤ 16) × ((i : ℕ) → i < length (now kids) → getD (now kids) i 0 < 256) ⌝ }
     ensures { λ _. ⌜ KidsOpened (λ i. marked (now (square .entry)) i i ≡ true) (now (kids .entry)) (now (opened .entry)) (now (opened .exit)) ⌝ }
 {

@@ -36,7 +36,7 @@ pub fn write_range(out: &mut [u8], marks: &[u8], all: bool, from: usize, until: 
 }
 
 // Decides the replacements of the child at i: those to which the square leads are allowed.
-fn write_row(out: &mut [u8], square: &[u8; 256], n: Numbering, i: usize)
+fn write_row(out: &mut [u8], square: &[u16; 16], n: Numbering, i: usize)
     requires { ⌜ Room n (now out) × (i < 16) ⌝ }
     ensures { λ _. ⌜ RowWritten n (now (square .entry)) i (now (out .entry)) (now (out .exit)) ⌝ }
 {
@@ -51,7 +51,7 @@ fn write_row(out: &mut [u8], square: &[u8; 256], n: Numbering, i: usize)
 }
 
 // Decides the replacements of a choice.
-pub fn write_choice(out: &mut [u8], square: &[u8; 256], n: Numbering)
+pub fn write_choice(out: &mut [u8], square: &[u16; 16], n: Numbering)
     requires { ⌜ Room n (now out) ⌝ }
     ensures { λ _. ⌜ ChoiceWritten n (now (square .entry)) (now (out .entry)) (now (out .exit)) ⌝ }
 {

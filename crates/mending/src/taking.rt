@@ -20,7 +20,7 @@ use verdict::marks::mark_at;
 use verdict::reach::leads;
 
 // Does k lead from i to j?
-fn is_lead(marks: &[u8], n: Numbering, square: &[u8; 256], i: usize, j: usize, k: usize) -> bool
+fn is_lead(marks: &[u8], n: Numbering, square: &[u16; 16], i: usize, j: usize, k: usize) -> bool
     requires { ⌜ Small n × (j < 16) ⌝ }
     ensures { λ r. ⌜ Tells (LeadsIn (now (marks .entry)) n (now (square .entry)) i j k) r ⌝ }
 {
@@ -37,7 +37,7 @@ fn is_lead(marks: &[u8], n: Numbering, square: &[u8; 256], i: usize, j: usize, k
 }
 
 // The replacement of i by the lowest k that leads from i to j.
-fn lowest_lead(marks: &[u8], n: Numbering, square: &[u8; 256], i: usize, j: usize) -> usize
+fn lowest_lead(marks: &[u8], n: Numbering, square: &[u16; 16], i: usize, j: usize) -> usize
     requires { ⌜ Small n × (j < 16) × ((k : ℕ) × LeadsIn (now marks) n (now square) i j k) ⌝ }
     ensures { λ r. ⌜ LowestIn (now (marks .entry)) n (now (square .entry)) i j r ⌝ }
 {
@@ -49,7 +49,7 @@ fn lowest_lead(marks: &[u8], n: Numbering, square: &[u8; 256], i: usize, j: usiz
 }
 
 // The lowest position from which the square leads back to it, with something forbidden below the child there.
-fn first_cycle(low: &[u16; 256], kids: &[u16], square: &[u8; 256]) -> Found
+fn first_cycle(low: &[u16; 256], kids: &[u16], square: &[u16; 16]) -> Found
     requires { ⌜ (length (now kids) ≤ 16) × ((i : ℕ) → i < length (now kids) → getD (now kids) i 0 < 256) ⌝ }
     ensures { λ r. ⌜ SpoiltCycle (now (low .entry)) (now (kids .entry)) (now (square .entry)) r ⌝ }
 {
@@ -73,7 +73,7 @@ pub fn next_taken(
     x: usize,
     kids: &[u16],
     n: Numbering,
-    square: &[u8; 256],
+    square: &[u16; 16],
 ) -> Found
     requires { ⌜ Visited (now words) (now m) (now low) x (now kids) n × IsChoice (now words) x × Square (countOf (now words) x) (Reached (now words) (Allowed (now m)) x) (now square) ⌝ }
     ensures { λ r. ⌜ NextTaken (now (words .entry)) (now (m .entry)) x r ⌝ }

@@ -5,6 +5,7 @@ pub mod Firsts
 pub mod Breached
 pub mod Closures
 pub mod SquareLaws
+pub mod Bits
 pub mod Forced
 pub mod Judged
 pub mod Walks

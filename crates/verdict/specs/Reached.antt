@@ -1,6 +1,6 @@
 -- Reached (document 01, "The three conditions"): at a choice, j is reached from i if one or more allowed replacements lead from i to j. What
 -- is allowed is any set of privileges, so that a policy's marks, a completion and a pair of maps can all be asked. Assumes nothing.
-use Prim.Native.Nat.{ℕ, _+_, _*_, _<_}
+use Prim.Native.Nat.{ℕ, _/_, _%_, _^_, _<_}
 use mathlib.Core.Path.{_≡_}
 use mathlib.Core.Bool.{Bool, true}
 use mathlib.Core.List.{List}
@@ -22,17 +22,21 @@ pub record Step (ws : List ℕ) (S : ℕ → Type 0) (x i j : ℕ) : Type 0 wher
 abbrev pub Reached : List ℕ → (ℕ → Type 0) → ℕ → ℕ → ℕ → Type 0
 Reached ws S x i j = Plus (Step ws S x) i j
 
--- a square of bytes holds a relation on positions: 1 at place 16 i + j where it leads from i to j
-abbrev pub marked : List ℕ → ℕ → ℕ → Bool
-marked square i j = eqb (getD square (16 * i + j) 0) 1
+-- bit j of a word
+abbrev pub bit : ℕ → ℕ → Bool
+bit word j = eqb (word / 2 ^ j % 2) 1
 
--- the steps that a square marks between the first n positions
-pub record Marked (n : ℕ) (square : List ℕ) (i j : ℕ) : Type 0 where
+-- rows of 16 bits hold a relation on positions: bit j of row i is 1 where it leads from i to j
+abbrev pub marked : List ℕ → ℕ → ℕ → Bool
+marked rows i j = bit (getD rows i 0) j
+
+-- the steps that rows mark between the first n positions
+pub record Marked (n : ℕ) (rows : List ℕ) (i j : ℕ) : Type 0 where
   pub from : i < n
   pub to : j < n
-  pub is : marked square i j ≡ true
+  pub is : marked rows i j ≡ true
 
--- the square tells the relation R between the first n positions
-pub record Square (n : ℕ) (R : ℕ → ℕ → Type 0) (square : List ℕ) : Type 0 where
-  pub size : length square ≡ 256
-  pub tells : (i j : ℕ) → i < n → j < n → Tells (R i j) (marked square i j)
+-- the rows tell the relation R between the first n positions
+pub record Square (n : ℕ) (R : ℕ → ℕ → Type 0) (rows : List ℕ) : Type 0 where
+  pub size : length rows ≡ 16
+  pub tells : (i j : ℕ) → i < n → j < n → Tells (R i j) (marked rows i j)

@@ -1,22 +1,21 @@
--- The steps at a choice by its numbering, and what each part of the closure does to a square of bytes. Assumes nothing.
+-- The steps at a choice by its numbering, and what each part of the closure does to rows of 16 bits. Assumes nothing.
 use Prim.Native.Nat.{ℕ, _≤_, _<_}
 use mathlib.Core.Path.{_≡_}
-use mathlib.Core.Logic.{_≢_}
 use mathlib.Core.Bool.{_||_, _&&_}
 use mathlib.Core.List.{List}
-use lib.ListN.{length}
+use lib.ListN.{length, getD}
 use Rattle.table.specs.Lowest.{Tells}
 use Rattle.table.specs.Privilege.{replaceIn, ReplaceableIn}
 use Rattle.table.specs.declared.privilege.Numbering.{Numbering}
 use Rattle.verdict.specs.Marks.{Allowed}
-use Rattle.verdict.specs.Reached.{marked}
+use Rattle.verdict.specs.Reached.{bit}
 
 -- the child at i may be replaced by the kind at j
 pub record StepIn (marks : List ℕ) (n : Numbering) (i j : ℕ) : Type 0 where
   pub can : ReplaceableIn n i j
   pub allowed : Allowed marks (replaceIn n i j)
 
--- a byte that is 1 where P holds, and else 0
+-- a number that is 1 where P holds, and else 0
 pub data Flags (P : Type 0) (r : ℕ) : Type 0 where
   on : P → r ≡ 1 → Flags P r
   off : ¬ P → r ≡ 0 → Flags P r
@@ -26,19 +25,16 @@ pub record Small (n : Numbering) : Type 0 where
   pub low : n .first ≤ 4096
   pub few : n .count ≤ 16
 
--- row i holds the steps from i, and the other rows are as they were
-pub record RowStepped (marks : List ℕ) (n : Numbering) (i : ℕ) (old new : List ℕ) : Type 0 where
-  pub size : length new ≡ 256
-  pub row : (j : ℕ) → j < n .count → Tells (StepIn marks n i j) (marked new i j)
-  pub rest : (a b : ℕ) → a ≢ i → b < 16 → marked new a b ≡ marked old a b
+-- a row tells P of each of the first n positions
+pub record Row (n : ℕ) (P : ℕ → Type 0) (row : ℕ) : Type 0 where
+  pub fits : row < 65536
+  pub tells : (j : ℕ) → j < n → Tells (P j) (bit row j)
 
--- row i is joined with row k, and the other rows are as they were
-pub record RowJoined (n k i : ℕ) (old new : List ℕ) : Type 0 where
-  pub size : length new ≡ 256
-  pub row : (b : ℕ) → b < n → marked new i b ≡ (marked old i b || marked old k b)
-  pub rest : (a b : ℕ) → a ≢ i → b < 16 → marked new a b ≡ marked old a b
+-- a row is joined with another if it leads to k
+abbrev pub RowJoined : ℕ → ℕ → ℕ → ℕ → Type 0
+RowJoined k row old new = (b : ℕ) → bit new b ≡ (bit old b || (bit old k && bit row b))
 
 -- each row that leads to k is joined with row k
-pub record Joined (n k : ℕ) (old new : List ℕ) : Type 0 where
-  pub size : length new ≡ 256
-  pub all : (a b : ℕ) → a < n → b < n → marked new a b ≡ (marked old a b || (marked old a k && marked old k b))
+pub record Joined (k : ℕ) (old new : List ℕ) : Type 0 where
+  pub size : length new ≡ 16
+  pub all : (a : ℕ) → a < 16 → RowJoined k (getD old k 0) (getD old a 0) (getD new a 0)

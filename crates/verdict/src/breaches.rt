@@ -51,7 +51,7 @@ pub fn no_breach() -> Breach
 }
 
 // Does the square lead from i to another position j, by which i must not be replaced?
-fn is_broken(marks: &[u8], n: Numbering, square: &[u8; 256], i: usize, j: usize) -> bool
+fn is_broken(marks: &[u8], n: Numbering, square: &[u16; 16], i: usize, j: usize) -> bool
     requires { ⌜ Small n × (i < n .count) × (j < n .count) ⌝ }
     ensures { λ r. ⌜ Tells (Broken (now (marks .entry)) n (now (square .entry)) i j) r ⌝ }
 {
@@ -65,7 +65,7 @@ fn is_broken(marks: &[u8], n: Numbering, square: &[u8; 256], i: usize, j: usize)
 }
 
 // The first such pair: the lowest i, then the lowest j.
-pub fn first_broken(marks: &[u8], n: Numbering, square: &[u8; 256]) -> Pair
+pub fn first_broken(marks: &[u8], n: Numbering, square: &[u16; 16]) -> Pair
     requires { ⌜ Small n ⌝ }
     ensures { λ r. ⌜ FirstPair (Broken (now (marks .entry)) n (now (square .entry))) (n .count) r ⌝ }
 {
@@ -124,7 +124,7 @@ fn cycle_breach(
     low: &[u16; 256],
     x: usize,
     kids: &[u16],
-    square: &[u8; 256],
+    square: &[u16; 16],
 ) -> Breach
     requires { ⌜ Visited (now words) (now marks) (now low) x (now kids) × IsChoice (now words) x × Square (countOf (now words) x) (Reached (now words) (Allowed (now marks)) x) (now square) ⌝ }
     ensures { λ r. ⌜ CycleAt (now (words .entry)) (now (marks .entry)) x r ⌝ }

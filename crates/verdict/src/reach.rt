@@ -1,4 +1,4 @@
-// Reaching within a choice: the closure of the allowed replacements, on a square of 16 by 16 bytes.
+// Reaching within a choice: the closure of the allowed replacements, a row of 16 bits for each child.
 // Contracts cite specs/Reached, and specs/Squares for the parts.
 ghost use mathlib.Core.Path.{_≡_};
 ghost use Prim.Native.Nat.{_≤_, _<_};
@@ -6,15 +6,15 @@ ghost use lib.ListN.{length};
 ghost use Rattle.table.specs.Rule.{IsChoice, countOf, childrenAt};
 ghost use Rattle.table.specs.Privilege.{NumberedAs};
 ghost use Rattle.verdict.specs.Marks.{Allowed, Policy};
-ghost use Rattle.verdict.specs.Reached.{Plus, Reached, marked, Marked, Square};
-ghost use Rattle.verdict.specs.Squares.{StepIn, Flags, Small, RowStepped, RowJoined, Joined};
+ghost use Rattle.verdict.specs.Reached.{Plus, Reached, bit, marked, Marked, Square};
+ghost use Rattle.verdict.specs.Squares.{StepIn, Flags, Small, Row, RowJoined, Joined};
 use super::marks::mark_at;
 use table::privilege::Numbering;
 use table::privilege::is_replaceable;
 use table::privilege::replacement;
 
 // May the child at i be replaced by the kind at j? 1 or 0.
-fn step(marks: &[u8], n: Numbering, i: usize, j: usize) -> u8
+fn step(marks: &[u8], n: Numbering, i: usize, j: usize) -> u16
     requires { ⌜ Small n ⌝ }
     ensures { λ r. ⌜ Flags (StepIn (now (marks .entry)) n i j) r ⌝ }
 {
@@ -28,87 +28,89 @@ fn step(marks: &[u8], n: Numbering, i: usize, j: usize) -> u8
     }
 }
 
-// Writes the steps from i into row i.
-fn step_row(square: &mut [u8; 256], marks: &[u8], n: Numbering, i: usize)
-    requires { ⌜ Small n × (length (now square) ≡ 256) × (i < 16) ⌝ }
-    ensures { λ _. ⌜ RowStepped (now (marks .entry)) n i (now (square .entry)) (now (square .exit)) ⌝ }
+// The steps from i, as a row.
+fn step_row(marks: &[u8], n: Numbering, i: usize) -> u16
+    requires { ⌜ Small n ⌝ }
+    ensures { λ r. ⌜ Row (n .count) (StepIn (now (marks .entry)) n i) r ⌝ }
 {
-    let count = n.count;
-    let mut j = 0;
-    while j < count {
-        square[16 * i + j] = step(marks, n, i, j);
-        j += 1;
+    let mut row: u16 = 0;
+    let mut j = n.count;
+    while 0 < j {
+        j -= 1;
+        row = 2 * row + step(marks, n, i, j);
     }
+    row
 }
 
 // The steps between the children.
-fn steps(kids: &[u16], marks: &[u8], n: Numbering) -> [u8; 256]
+fn steps(kids: &[u16], marks: &[u8], n: Numbering) -> [u16; 16]
     requires { ⌜ Small n × (length (now kids) ≡ n .count) ⌝ }
     ensures { λ r. ⌜ Square (n .count) (StepIn (now (marks .entry)) n) r ⌝ }
 {
-    let mut square = [0u8; 256];
+    let mut rows = [0u16; 16];
     let mut i = 0;
     while i < kids.len() {
-        step_row(&mut square, marks, n, i);
+        rows[i] = step_row(marks, n, i);
         i += 1;
     }
-    square
+    rows
 }
 
-// Joins row i with row k.
-fn join_row(square: &mut [u8; 256], n: usize, k: usize, i: usize)
-    requires { ⌜ (length (now square) ≡ 256) × (n ≤ 16) × (k < n) × (i < n) ⌝ }
-    ensures { λ _. ⌜ RowJoined n k i (now (square .entry)) (now (square .exit)) ⌝ }
+// Is bit j of the row 1?
+fn has(row: u16, j: usize) -> bool
+    requires { ⌜ j < 16 ⌝ }
+    ensures { λ r. ⌜ r ≡ bit row j ⌝ }
 {
-    let mut j = 0;
-    while j < n {
-        if square[16 * k + j] == 1 {
-            square[16 * i + j] = 1;
-        }
-        j += 1;
-    }
+    (row >> j) & 1 == 1
+}
+
+// A row, joined with another if it leads to k.
+fn joined(old: u16, row: u16, k: usize) -> u16
+    requires { ⌜ k < 16 ⌝ }
+    ensures { λ r. ⌜ RowJoined k row old r ⌝ }
+{
+    if has(old, k) { old | row } else { old }
 }
 
 // Joins each row that leads to k with row k.
-fn join(square: &mut [u8; 256], n: usize, k: usize)
-    requires { ⌜ (length (now square) ≡ 256) × (n ≤ 16) × (k < n) ⌝ }
-    ensures { λ _. ⌜ Joined n k (now (square .entry)) (now (square .exit)) ⌝ }
+fn join(rows: &mut [u16; 16], k: usize)
+    requires { ⌜ (length (now rows) ≡ 16) × (k < 16) ⌝ }
+    ensures { λ _. ⌜ Joined k (now (rows .entry)) (now (rows .exit)) ⌝ }
 {
+    let row = rows[k];
     let mut i = 0;
-    while i < n {
-        if square[16 * i + k] == 1 {
-            join_row(square, n, k, i);
-        }
+    while i < 16 {
+        rows[i] = joined(rows[i], row, k);
         i += 1;
     }
 }
 
-// One or more steps of the square, between its first n positions.
-fn close(square: [u8; 256], n: usize) -> [u8; 256]
+// One or more steps of the rows, between the first n positions.
+fn close(rows: [u16; 16], n: usize) -> [u16; 16]
     requires { ⌜ n ≤ 16 ⌝ }
-    ensures { λ r. ⌜ Square n (Plus (Marked n square)) r ⌝ }
+    ensures { λ r. ⌜ Square n (Plus (Marked n rows)) r ⌝ }
 {
-    let mut closed = square;
+    let mut closed = rows;
     let mut k = 0;
     while k < n {
-        join(&mut closed, n, k);
+        join(&mut closed, k);
         k += 1;
     }
     closed
 }
 
 // What is reached from what at the choice x of a policy, by its children and its numbering.
-pub fn reached(words: &[u16], marks: &[u8], x: usize, kids: &[u16], n: Numbering) -> [u8; 256]
+pub fn reached(words: &[u16], marks: &[u8], x: usize, kids: &[u16], n: Numbering) -> [u16; 16]
     requires { ⌜ Policy (now words) (now marks) × IsChoice (now words) x × (now kids ≡ childrenAt (now words) x) × NumberedAs (now words) x n ⌝ }
     ensures { λ r. ⌜ Square (countOf (now (words .entry)) x) (Reached (now (words .entry)) (Allowed (now (marks .entry))) x) r ⌝ }
 {
     close(steps(kids, marks, n), kids.len())
 }
 
-// Does the square lead from i to j?
-pub fn leads(square: &[u8; 256], i: usize, j: usize) -> bool
+// Do the rows lead from i to j?
+pub fn leads(rows: &[u16; 16], i: usize, j: usize) -> bool
     requires { ⌜ (i < 16) × (j < 16) ⌝ }
-    ensures { λ r. ⌜ r ≡ marked (now (square .entry)) i j ⌝ }
+    ensures { λ r. ⌜ r ≡ marked (now (rows .entry)) i j ⌝ }
 {
-    square[16 * i + j] == 1
+    has(rows[i], j)
 }

@@ -1,7 +1,7 @@
 -- The loop has closed the square over the positions below k. Assumes nothing.
 use Prim.Native.Nat.{_-_}
 use native.Mathlib.Omega.{arith}
-use mir.Syntax.{w8}
+use mir.Syntax.{w16}
 use borrow.Author.Needs.{needs}
 use borrow.Kind.Array.{eInt, good-length}
 use Rattle.verdict.proofs.SquareLaws.{ClosedSoFar, closed-start, closed-more, closed-all}
@@ -15,7 +15,7 @@ abbrev μ-loop : tie.MeasureT-loop
 μ-loop n closed₀ k₀ closed k = n - k
 
 loop-holds : tie.Need-loop-holds Inv-loop μ-loop
-loop-holds c = closed-start (good-length (eInt w8) 256 (c .args .square) _ (c .good .0))
+loop-holds c = closed-start (good-length (eInt w16) 16 (c .args .rows) _ (c .good .0))
 
 join-requires : tie.Need-join-requires Inv-loop μ-loop
 join-requires c κs = search needs
@@ -29,7 +29,7 @@ loop-less c = search needs
 loop-again : tie.Need-loop-again Inv-loop μ-loop
 loop-again c =
     let at = c .before .before in
-    closed-more (at .before .loop .inv) (at .loop-test .taken) (c .join .ensures)
+    closed-more (at .before .loop .inv) (at .before .before .pre) (at .loop-test .taken) (c .join .ensures)
 
 returns : tie.Need-returns Inv-loop μ-loop
 returns c = closed-all (c .before .loop .inv) (omega arith)

@@ -1,32 +1,42 @@
--- The loop has joined the rows up to i, and row k is as it was. Assumes nothing.
-use Prim.Native.Nat.{_-_}
-use mathlib.Core.Logic.{⊎-elim}
-use native.Mathlib.Omega.{arith}
+-- The loop has joined the rows up to i with row k as it was. Assumes nothing.
 use borrow.Author.Needs.{needs}
-use Rattle.verdict.proofs.SquareLaws.{JoinsSoFar, rows-start, joins-mark, joins-pass}
+use Prim.Native.Nat.{_-_}
+use native.Mathlib.Omega.{arith}
+use lib.ListN.{getD}
+use Rattle.verdict.specs.Squares.{RowJoined}
+use Rattle.verdict.proofs.SquareLaws.{RowsSoFar, rows-start, rows-more}
 use Rattle.verdict.proofs.reach.join.Statement.{statement}
 use Rattle.verdict.proofs.reach.join.Tie as tie
 
 abbrev Inv-loop : tie.InvT-loop
-Inv-loop square₀ n k i₀ square i = JoinsSoFar n k i square₀ square
+Inv-loop rows₀ k row i₀ rows i = RowsSoFar (λ a r. RowJoined k row (getD rows₀ a 0) r) i rows₀ rows
 
 abbrev μ-loop : tie.MeasureT-loop
-μ-loop square₀ n k i₀ square i = n - i
+μ-loop rows₀ k row i₀ rows i = 16 - i
+
+mul-row : tie.Need-mul-row Inv-loop μ-loop
+mul-row c = search needs
+
+element-copy-out-row : tie.Need-element-copy-out-row Inv-loop μ-loop
+element-copy-out-row c = search needs
 
 loop-holds : tie.Need-loop-holds Inv-loop μ-loop
-loop-holds c = rows-start (c .pre .0)
+loop-holds c = rows-start (c .before .pre .0)
 
-mul-if1 : tie.Need-mul-if1 Inv-loop μ-loop
-mul-if1 c = search needs
+mul-joined : tie.Need-mul-joined Inv-loop μ-loop
+mul-joined c = search needs
 
-add-if1 : tie.Need-add-if1 Inv-loop μ-loop
-add-if1 c = search needs
+element-copy-out-joined : tie.Need-element-copy-out-joined Inv-loop μ-loop
+element-copy-out-joined c = search needs
 
-element-copy-out-if1 : tie.Need-element-copy-out-if1 Inv-loop μ-loop
-element-copy-out-if1 c = search needs
+joined-requires : tie.Need-joined-requires Inv-loop μ-loop
+joined-requires c κs = search needs
 
-join-row-requires : tie.Need-join-row-requires Inv-loop μ-loop
-join-row-requires c κs = search needs
+mul-rows : tie.Need-mul-rows Inv-loop μ-loop
+mul-rows c = search needs
+
+element-write-rows : tie.Need-element-write-rows Inv-loop μ-loop
+element-write-rows c = search needs
 
 add-i : tie.Need-add-i Inv-loop μ-loop
 add-i c = search needs
@@ -37,15 +47,13 @@ loop-less c = search needs
 loop-again : tie.Need-loop-again Inv-loop μ-loop
 loop-again c =
     let at = c .before .before .before in
-    let k = at .before .args .k in
-    ⊎-elim (λ w. rw (w .3) (joins-mark k (at .loop .inv) (at .before .pre .2) (at .before .pre .1) (w .0 .taken) (w .2 .ensures)))
-    (λ w. rw (w .1) (joins-pass k (at .loop .inv) (at .before .pre .2) (w .0 .left)))
-    (c .if1 .came)
+    let old = at .loop .inv .ahead (at .loop .i) (omega arith) in
+    rows-more (at .loop .inv) (c .joined .result) (omega arith) (rw old at (c .joined .ensures))
 
 returns : tie.Need-returns Inv-loop μ-loop
 returns c =
     let s = c .before .loop .inv in
-    record { size = s .size; all = λ a b la lb. s .done a (omega arith) b lb }
+    record { size = s .size; all = λ a l. s .done a (omega arith) }
 
 pub join-spec : {M : Type 1} → statement M
 join-spec =
@@ -53,11 +61,14 @@ join-spec =
     (tie.spec
     Inv-loop
     μ-loop
+    mul-row
+    element-copy-out-row
     loop-holds
-    mul-if1
-    add-if1
-    element-copy-out-if1
-    join-row-requires
+    mul-joined
+    element-copy-out-joined
+    joined-requires
+    mul-rows
+    element-write-rows
     add-i
     loop-less
     loop-again

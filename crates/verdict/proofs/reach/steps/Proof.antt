@@ -1,26 +1,31 @@
 -- The loop has written the rows up to i. Assumes nothing.
+use borrow.Author.Needs.{needs}
 use Prim.Native.Nat.{_-_}
 use mathlib.Core.Path.{refl}
 use native.Mathlib.Omega.{arith}
-use borrow.Author.Needs.{needs}
 use lib.ListN.{length}
-use Rattle.table.specs.Lowest.{Tells}
-use Rattle.verdict.specs.Squares.{StepIn}
+use Rattle.verdict.specs.Squares.{StepIn, Row}
 use Rattle.verdict.proofs.SquareLaws.{RowsSoFar, rows-start, rows-more}
 use Rattle.verdict.proofs.reach.steps.Statement.{statement}
 use Rattle.verdict.proofs.reach.steps.Tie as tie
 
 abbrev Inv-loop : tie.InvT-loop
-Inv-loop kids marks n square₀ i₀ square i = RowsSoFar (λ a b. Tells (StepIn marks n a b)) (n .count) i square₀ square
+Inv-loop kids marks n rows₀ i₀ rows i = RowsSoFar (λ a r. Row (n .count) (StepIn marks n a) r) i rows₀ rows
 
 abbrev μ-loop : tie.MeasureT-loop
-μ-loop kids marks n square₀ i₀ square i = length kids - i
+μ-loop kids marks n rows₀ i₀ rows i = length kids - i
 
 loop-holds : tie.Need-loop-holds Inv-loop μ-loop
 loop-holds c = rows-start refl
 
 step-row-requires : tie.Need-step-row-requires Inv-loop μ-loop
 step-row-requires c κs = search needs
+
+mul-rows : tie.Need-mul-rows Inv-loop μ-loop
+mul-rows c = search needs
+
+array-write-rows : tie.Need-array-write-rows Inv-loop μ-loop
+array-write-rows c = search needs
 
 add-i : tie.Need-add-i Inv-loop μ-loop
 add-i c = search needs
@@ -30,15 +35,25 @@ loop-less c = search needs
 
 loop-again : tie.Need-loop-again Inv-loop μ-loop
 loop-again c =
-    let row = c .step-row .ensures in
-    rows-more (c .before .before .before .loop .inv) (row .size) (row .row) (λ a b d l. row .rest a b d (omega arith))
+    let start = c .before .before .before .before .before in
+    rows-more (c .before .before .loop .inv) (c .step-row .result) (omega (arith, start .pre .0 .few, start .pre .1)) (c .step-row .ensures)
 
 returns : tie.Need-returns Inv-loop μ-loop
 returns c =
     let s = c .before .loop .inv in
-    record { size = s .size; tells = λ a b la lb. s .done a (omega arith) b lb }
+    record { size = s .size; tells = λ a b la lb. s .done a (omega (arith, c .before .before .before .before .pre .1)) .tells b lb }
 
 pub steps-spec : {M : Type 1} → statement M
 steps-spec =
     tie.close
-    (tie.spec Inv-loop μ-loop loop-holds step-row-requires add-i loop-less loop-again returns)
+    (tie.spec
+    Inv-loop
+    μ-loop
+    loop-holds
+    step-row-requires
+    mul-rows
+    array-write-rows
+    add-i
+    loop-less
+    loop-again
+    returns)

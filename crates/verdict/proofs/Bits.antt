@@ -1,0 +1,85 @@
+-- The bits of a word: of its double, of two words joined, of one that is written from its highest bit down. Assumes nothing.
+use Prim.Native.Nat.{ℕ, zero, suc, _+_, _-_, _*_, _/_, _%_, _^_, _≤_, _<_}
+use mathlib.Core.Path.{_≡_, refl, sym, ap, subst, _∙_}
+use mathlib.Core.Bool.{Bool, true, false, _||_, _&&_}
+use native.Mathlib.Nat.{pow-suc, mul-comm, div-one, div-div-eq-div-mul, pow-le-pow-right, zero-lt-suc}
+use native.Mathlib.Omega.{arith}
+use lib.Bits.{bitOr, bitAnd, or-shr, or-mod, and-mask}
+use lib.Dec.{eqb}
+use Rattle.table.specs.Lowest.{Tells}
+use Rattle.verdict.specs.Reached.{bit}
+use Rattle.verdict.specs.Squares.{Flags, on, off, Row}
+use Rattle.verdict.proofs.SquareLaws.{flags-tell}
+
+-- the bit that a shift and a mask read
+pub bit-read : (word j : ℕ) → eqb (bitAnd (word / 2 ^ j) 1) 1 ≡ bit word j
+bit-read word j = ap (λ (r : ℕ). eqb r 1) (and-mask (word / 2 ^ j) 1)
+
+joins : (a b : ℕ) → a < 2 → b < 2 → eqb (bitOr a b) 1 ≡ (eqb a 1 || eqb b 1)
+joins zero zero ha hb = refl
+joins zero (suc zero) ha hb = refl
+joins (suc zero) zero ha hb = refl
+joins (suc zero) (suc zero) ha hb = refl
+joins zero (suc (suc b)) ha hb = absurd (omega arith)
+joins (suc zero) (suc (suc b)) ha hb = absurd (omega arith)
+joins (suc (suc a)) b ha hb = absurd (omega arith)
+
+pub bit-or : (a b j : ℕ) → bit (bitOr a b) j ≡ (bit a j || bit b j)
+bit-or a b j =
+    ap (λ (r : ℕ). eqb (r % 2) 1) (or-shr a b j)
+    ∙ ap (λ (r : ℕ). eqb r 1) (or-mod (a / 2 ^ j) (b / 2 ^ j) 1)
+    ∙ joins (a / 2 ^ j % 2) (b / 2 ^ j % 2) (omega arith) (omega arith)
+
+double-low : (r s : ℕ) → s < 2 → bit (2 * r + s) 0 ≡ eqb s 1
+double-low r s h =
+    let low : (2 * r + s) % 2 ≡ s = omega arith in
+    ap (λ (x : ℕ). eqb (x % 2) 1) (div-one (2 * r + s)) ∙ ap (λ (x : ℕ). eqb x 1) low
+
+double-high : (r s j : ℕ) → s < 2 → bit (2 * r + s) (suc j) ≡ bit r j
+double-high r s j h =
+    let half : (2 * r + s) / 2 ≡ r = omega arith in
+    let power : 2 ^ suc j ≡ 2 * 2 ^ j = pow-suc 2 j ∙ mul-comm (2 ^ j) 2 in
+    ap (λ (x : ℕ). eqb ((2 * r + s) / x % 2) 1) power
+    ∙ ap (λ (x : ℕ). eqb (x % 2) 1) (sym (div-div-eq-div-mul (2 * r + s) 2 (2 ^ j)) ∙ ap (λ (x : ℕ). x / 2 ^ j) half)
+
+-- the row tells P of the positions from j on, up to n
+pub record RowFrom (P : ℕ → Type 0) (n j row : ℕ) : Type 0 where
+  pub within : j ≤ n
+  pub fits : row < 2 ^ (n - j)
+  pub tells : (b : ℕ) → j + b < n → Tells (P (j + b)) (bit row b)
+
+pub row-start : {P : ℕ → Type 0} {n : ℕ} → RowFrom P n n 0
+row-start {P} {n} =
+    let none : n - n ≡ 0 = omega arith in
+    record { within = omega arith; fits = rw none (zero-lt-suc 0); tells = λ b l. absurd (omega arith) }
+
+pub flag-few : {P : Type 0} {s : ℕ} → Flags P s → s < 2
+flag-few (on p e) = omega arith
+flag-few (off d e) = omega arith
+
+module _ {P : ℕ → Type 0} {n j row : ℕ} (r : RowFrom P n j row) (some : 0 < j) where
+  pub row-small : n ≤ 16 → row < 32768
+  row-small few = let h : n - j ≤ 15 = omega arith in omega (arith, r .fits, pow-le-pow-right {n = 2} (zero-lt-suc 1) h)
+
+  pub row-more : {s : ℕ} → Flags (P (j - 1)) s → RowFrom P n (j - 1) (2 * row + s)
+  row-more {s} f =
+      let one : n - (j - 1) ≡ suc (n - j) = omega (arith, r .within) in
+      record {
+        within = omega (arith, r .within);
+        fits = rw (one, pow-suc 2 (n - j)) (omega (arith, r .fits, flag-few f));
+        tells = all;
+      }
+    where
+      all : (b : ℕ) → j - 1 + b < n → Tells (P (j - 1 + b)) (bit (2 * row + s) b)
+      all zero l =
+          let e : j - 1 ≡ j - 1 + 0 = omega arith in
+          subst (λ (x : ℕ). Tells (P x) (bit (2 * row + s) 0)) e (rw (double-low row s (flag-few f)) (flags-tell f))
+      all (suc b) l =
+          let e : j + b ≡ j - 1 + suc b = omega arith in
+          subst (λ (x : ℕ). Tells (P x) (bit (2 * row + s) (suc b))) e (rw (double-high row s b (flag-few f)) (r .tells b (omega arith)))
+
+pub row-end : {P : ℕ → Type 0} {n j row : ℕ} → n ≤ 16 → j ≤ 0 → RowFrom P n j row → Row n P row
+row-end {P} {n} {j} {row} few none r = record {
+  fits = let h : n - j ≤ 16 = omega arith in omega (arith, r .fits, pow-le-pow-right {n = 2} (zero-lt-suc 1) h);
+  tells = λ b l. let e : j + b ≡ b = omega arith in subst (λ (x : ℕ). Tells (P x) (bit row b)) e (r .tells b (omega arith));
+}
