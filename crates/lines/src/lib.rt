@@ -42,10 +42,10 @@ fn put_numbers(out: &mut [u8], at: usize, ns: &[usize]) -> usize
     ensures { λ r. ⌜ Puts (numbers (now (ns .entry))) (now (out .entry)) at (now (out .exit)) r ⌝ }
 {
     let mut end = at;
-    let mut k = 0;
-    while k < ns.len() {
-        end = put_spaced(out, end, ns[k]);
-        k += 1;
+    let mut i = 0;
+    while i < ns.len() {
+        end = put_spaced(out, end, ns[i]);
+        i += 1;
     }
     end
 }

@@ -8,10 +8,10 @@ use Rattle.lines.proofs.put_numbers.Statement.{statement}
 use Rattle.lines.proofs.put_numbers.Tie as tie
 
 abbrev Inv-loop : tie.InvT-loop
-Inv-loop out₀ at ns end₀ k₀ out end k = Spaced out₀ at ns k out end
+Inv-loop out₀ at ns end₀ i₀ out end i = Spaced out₀ at ns i out end
 
 abbrev μ-loop : tie.MeasureT-loop
-μ-loop out₀ at ns end₀ k₀ out end k = length ns - k
+μ-loop out₀ at ns end₀ i₀ out end i = length ns - i
 
 loop-holds : tie.Need-loop-holds Inv-loop μ-loop
 loop-holds c = spaced-start
@@ -28,8 +28,8 @@ put-spaced-requires c κs =
     let start = turn .before .before .before .before in
     omega (arith, start .pre, turn .loop-test .taken, spaced-room (turn .before .loop .inv), spaced-length (start .pre) (turn .before .loop .inv))
 
-add-k : tie.Need-add-k Inv-loop μ-loop
-add-k c = search needs
+add-i : tie.Need-add-i Inv-loop μ-loop
+add-i c = search needs
 
 loop-less : tie.Need-loop-less Inv-loop μ-loop
 loop-less c = search needs
@@ -55,7 +55,7 @@ put-numbers-spec =
     mul-put-spaced
     shared-slice-read-put-spaced
     put-spaced-requires
-    add-k
+    add-i
     loop-less
     loop-again
     same-length
