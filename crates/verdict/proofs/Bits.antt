@@ -1,14 +1,17 @@
 -- The bits of a word: of its double, of two words joined, of one that is written from its highest bit down. Assumes nothing.
 use Prim.Native.Nat.{ℕ, zero, suc, _+_, _-_, _*_, _/_, _%_, _^_, _≤_, _<_}
 use mathlib.Core.Path.{_≡_, refl, sym, ap, subst, _∙_}
-use mathlib.Core.Bool.{Bool, true, false, _||_, _&&_}
-use native.Mathlib.Nat.{pow-suc, mul-comm, div-one, div-div-eq-div-mul, pow-le-pow-right, zero-lt-suc}
+use mathlib.Core.Bool.{Bool, true, false, _||_, _&&_, true≢false}
+use native.Mathlib.Nat.{pow-suc, mul-comm, div-one, zero-div, div-div-eq-div-mul, pow-le-pow-right, zero-lt-suc}
 use native.Mathlib.Omega.{arith}
-use lib.Bits.{bitOr, bitAnd, or-shr, or-mod, and-mask}
+use lib.Bits.{bitOr, bitAnd, and-shr, and-mod, or-shr, or-mod, and-mask}
+use mathlib.Core.Logic.{_≢_}
+use mathlib.Core.List.{List}
+use Rattle.table.specs.declared.privilege.Numbering.{Numbering}
 use lib.Dec.{eqb}
 use Rattle.table.specs.Lowest.{Tells}
 use Rattle.verdict.specs.Reached.{bit}
-use Rattle.verdict.specs.Squares.{Flags, on, off, Row}
+use Rattle.verdict.specs.Squares.{Flags, on, off, MarkIn, there, none, MarkedIn, Row}
 use Rattle.verdict.proofs.SquareLaws.{flags-tell}
 
 -- the bit that a shift and a mask read
@@ -29,6 +32,28 @@ bit-or a b j =
     ap (λ (r : ℕ). eqb (r % 2) 1) (or-shr a b j)
     ∙ ap (λ (r : ℕ). eqb r 1) (or-mod (a / 2 ^ j) (b / 2 ^ j) 1)
     ∙ joins (a / 2 ^ j % 2) (b / 2 ^ j % 2) (omega arith) (omega arith)
+
+meets : (a b : ℕ) → a < 2 → b < 2 → eqb (bitAnd a b) 1 ≡ (eqb a 1 && eqb b 1)
+meets zero zero ha hb = refl
+meets zero (suc zero) ha hb = refl
+meets (suc zero) zero ha hb = refl
+meets (suc zero) (suc zero) ha hb = refl
+meets zero (suc (suc b)) ha hb = absurd (omega arith)
+meets (suc zero) (suc (suc b)) ha hb = absurd (omega arith)
+meets (suc (suc a)) b ha hb = absurd (omega arith)
+
+bit-and : (a b j : ℕ) → bit (bitAnd a b) j ≡ (bit a j && bit b j)
+bit-and a b j =
+    ap (λ (r : ℕ). eqb (r % 2) 1) (and-shr a b j)
+    ∙ ap (λ (r : ℕ). eqb r 1) (and-mod (a / 2 ^ j) (b / 2 ^ j) 1)
+    ∙ meets (a / 2 ^ j % 2) (b / 2 ^ j % 2) (omega arith) (omega arith)
+
+bit-none : (j : ℕ) → bit 0 j ≡ false
+bit-none j = ap (λ (r : ℕ). eqb (r % 2) 1) (zero-div (2 ^ j))
+
+-- rows that have nothing in common share no bit
+pub unshared : (a b j : ℕ) → bitAnd a b ≡ 0 → ¬ ((bit a j ≡ true) × (bit b j ≡ true))
+unshared a b j e (p, q) = true≢false (sym (bit-and a b j ∙ rw (p, q) refl) ∙ ap (λ (r : ℕ). bit r j) e ∙ bit-none j)
 
 double-low : (r s : ℕ) → s < 2 → bit (2 * r + s) 0 ≡ eqb s 1
 double-low r s h =
@@ -79,7 +104,14 @@ module _ {P : ℕ → Type 0} {n j row : ℕ} (r : RowFrom P n j row) (some : 0 
           subst (λ (x : ℕ). Tells (P x) (bit (2 * row + s) (suc b))) e (rw (double-high row s b (flag-few f)) (r .tells b (omega arith)))
 
 pub row-end : {P : ℕ → Type 0} {n j row : ℕ} → n ≤ 16 → j ≤ 0 → RowFrom P n j row → Row n P row
-row-end {P} {n} {j} {row} few none r = record {
+row-end {P} {n} {j} {row} few zero-j r = record {
   fits = let h : n - j ≤ 16 = omega arith in omega (arith, r .fits, pow-le-pow-right {n = 2} (zero-lt-suc 1) h);
   tells = λ b l. let e : j + b ≡ b = omega arith in subst (λ (x : ℕ). Tells (P x) (bit row b)) e (r .tells b (omega arith));
 }
+
+-- the flag of a mark that was read is that of the privilege
+pub mark-flags : {marks : List ℕ} {n : Numbering} {i j r s : ℕ} (mark : ℕ) → mark ≢ 0 → MarkIn marks n i j r → Flags (r ≡ mark) s → Flags (MarkedIn mark marks n i j) s
+mark-flags mark d (there c e) (on p f) = on (record { can = c; is = sym e ∙ p }) f
+mark-flags mark d (there c e) (off q f) = off (λ m. q (e ∙ m .is)) f
+mark-flags mark d (none c e) (on p f) = absurd (d (sym p ∙ e))
+mark-flags mark d (none c e) (off q f) = off (λ m. c (m .can)) f

@@ -12,7 +12,10 @@ use lib.Dec.{eqb}
 use lib.ListN.{length, getD, set, length-set}
 use lib.Seq.{getD-set-same, getD-set-other}
 use Rattle.table.specs.Lowest.{Tells}
-use Rattle.table.specs.Rule.{IsChoice}
+use Rattle.table.specs.Words.{types}
+use Rattle.table.specs.Rule.{IsChoice, childrenAt}
+use Rattle.table.specs.Check.{Accepted}
+use Rattle.table.proofs.Facts.{facts}
 use Rattle.table.specs.Privilege.{NumberedAs}
 use Rattle.table.specs.declared.privilege.Numbering.{Numbering}
 use Rattle.table.proofs.Lists.{le-or-lt}
@@ -20,7 +23,8 @@ use Rattle.table.proofs.Lowest.{told-yes, tells-as, tells-by}
 use Rattle.table.proofs.Privileges.{replaceable-in, in-replaceable, replace-in}
 use Rattle.verdict.specs.Marks.{Allowed}
 use Rattle.verdict.specs.Reached.{Plus, Step, marked, Marked, Square}
-use Rattle.verdict.specs.Squares.{StepIn, Flags, on, off, RowJoined, Joined}
+use Rattle.verdict.specs.Squares.{StepIn, ForbiddenIn, Flags, on, off, Small, Joined}
+use Rattle.verdict.specs.Visits.{Broken}
 use Rattle.verdict.proofs.Closures.{Via, via-more, via-all}
 
 -- the number tells what it is to flag
@@ -83,7 +87,25 @@ module _ {n : ℕ} {R : ℕ → ℕ → Type 0} {square : List ℕ} (s : Square 
 -- the steps by the numbering of a choice are its steps
 module _ {ws : List ℕ} {x : ℕ} {n : Numbering} (h : NumberedAs ws x n) (c : IsChoice ws x) (marks : List ℕ) where
   pub step-out : (i j : ℕ) → StepIn marks n i j → Step ws (Allowed marks) x i j
-  step-out i j s = record { can = in-replaceable h c (s .can); allowed = rw (replace-in h i j) at (s .allowed) }
+  step-out i j s = record { can = in-replaceable h c (s .can); allowed = rw (replace-in h i j) at (s .is) }
 
   pub step-into : (i j : ℕ) → Step ws (Allowed marks) x i j → StepIn marks n i j
-  step-into i j s = record { can = replaceable-in h (s .can); allowed = rw (replace-in h i j) (s .allowed) }
+  step-into i j s = record { can = replaceable-in h (s .can); is = rw (replace-in h i j) (s .allowed) }
+
+-- a choice's children are as many as its numbering says
+pub kids-here : {ws kids : List ℕ} {x : ℕ} {n : Numbering} → Accepted ws → x < types ws → kids ≡ childrenAt ws x → NumberedAs ws x n → length kids ≡ n .count
+kids-here {x = x} good type kids h = ap length kids ∙ facts good .children-here x type ∙ sym (h .count)
+
+pub small-of : {ws : List ℕ} {x : ℕ} {n : Numbering} → NumberedAs ws x n → Small n
+small-of h = record { low = h .low; few = h .few }
+
+-- a broken pair is one that both squares mark
+module _ {marks : List ℕ} {n : Numbering} {square forbidden : List ℕ} (bans : Square (n .count) (ForbiddenIn marks n) forbidden)
+    {i j : ℕ} (hi : i < n .count) (hj : j < n .count) where
+  pub broken-marked : Broken marks n square i j → marked forbidden i j ≡ true
+  broken-marked b = told-marked bans i j hi hj (record { can = record { from = hi; to = hj; apart = b .apart }; is = b .forbidden }) .is
+
+  pub marked-broken : marked square i j ≡ true → marked forbidden i j ≡ true → Broken marks n square i j
+  marked-broken l f =
+      let ban = told-yes (marked forbidden i j) (bans .tells i j hi hj) f in
+      record { apart = ban .can .apart; leads = l; forbidden = ban .is }

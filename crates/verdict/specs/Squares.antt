@@ -3,17 +3,29 @@ use Prim.Native.Nat.{ℕ, _≤_, _<_}
 use mathlib.Core.Path.{_≡_}
 use mathlib.Core.Bool.{_||_, _&&_}
 use mathlib.Core.List.{List}
-use lib.ListN.{length, getD}
+use lib.ListN.{length, getD, set}
 use Rattle.table.specs.Lowest.{Tells}
 use Rattle.table.specs.Privilege.{replaceIn, ReplaceableIn}
 use Rattle.table.specs.declared.privilege.Numbering.{Numbering}
-use Rattle.verdict.specs.Marks.{Allowed}
-use Rattle.verdict.specs.Reached.{bit}
+use Rattle.verdict.specs.Reached.{bit, Square}
+
+-- there is a privilege to replace the child at i by the kind at j, and it has this mark
+pub record MarkedIn (mark : ℕ) (marks : List ℕ) (n : Numbering) (i j : ℕ) : Type 0 where
+  pub can : ReplaceableIn n i j
+  pub is : getD marks (replaceIn n i j) 0 ≡ mark
 
 -- the child at i may be replaced by the kind at j
-pub record StepIn (marks : List ℕ) (n : Numbering) (i j : ℕ) : Type 0 where
-  pub can : ReplaceableIn n i j
-  pub allowed : Allowed marks (replaceIn n i j)
+abbrev pub StepIn : List ℕ → Numbering → ℕ → ℕ → Type 0
+StepIn marks n i j = MarkedIn 1 marks n i j
+
+-- the child at i must not be replaced by the kind at j
+abbrev pub ForbiddenIn : List ℕ → Numbering → ℕ → ℕ → Type 0
+ForbiddenIn marks n i j = MarkedIn 2 marks n i j
+
+-- the mark of that privilege, or 0 where there is none
+pub data MarkIn (marks : List ℕ) (n : Numbering) (i j r : ℕ) : Type 0 where
+  there : ReplaceableIn n i j → r ≡ getD marks (replaceIn n i j) 0 → MarkIn marks n i j r
+  none : ¬ ReplaceableIn n i j → r ≡ 0 → MarkIn marks n i j r
 
 -- a number that is 1 where P holds, and else 0
 pub data Flags (P : Type 0) (r : ℕ) : Type 0 where
@@ -29,6 +41,20 @@ pub record Small (n : Numbering) : Type 0 where
 pub record Row (n : ℕ) (P : ℕ → Type 0) (row : ℕ) : Type 0 where
   pub fits : row < 65536
   pub tells : (j : ℕ) → j < n → Tells (P j) (bit row j)
+
+-- row i of both squares is read
+pub record RowRead (marks : List ℕ) (n : Numbering) (i : ℕ) (allowed forbidden newAllowed newForbidden : List ℕ) : Type 0 where
+  pub steps : ℕ
+  pub bans : ℕ
+  pub steps-tell : Row (n .count) (StepIn marks n i) steps
+  pub bans-tell : Row (n .count) (ForbiddenIn marks n i) bans
+  pub allowed-is : newAllowed ≡ set allowed i steps
+  pub forbidden-is : newForbidden ≡ set forbidden i bans
+
+-- one square tells what is allowed, the other what is forbidden
+pub record Read (marks : List ℕ) (n : Numbering) (allowed forbidden : List ℕ) : Type 0 where
+  pub steps : Square (n .count) (StepIn marks n) allowed
+  pub bans : Square (n .count) (ForbiddenIn marks n) forbidden
 
 -- a row is joined with another if it leads to k
 abbrev pub RowJoined : ℕ → ℕ → ℕ → ℕ → Type 0

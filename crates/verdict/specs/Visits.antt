@@ -1,5 +1,5 @@
 -- What is known where a search for breaches visits a type, and the search over pairs of positions. Assumes nothing.
-use Prim.Native.Nat.{ℕ, _<_}
+use Prim.Native.Nat.{ℕ, _≤_, _<_}
 use mathlib.Core.Path.{_≡_}
 use mathlib.Core.Logic.{_≢_}
 use mathlib.Core.Bool.{true}
@@ -10,7 +10,7 @@ use Rattle.table.specs.Privilege.{replaceIn}
 use Rattle.table.specs.declared.privilege.Numbering.{Numbering}
 use Rattle.verdict.specs.Marks.{Forbidden, Policy}
 use Rattle.verdict.specs.Below.{Lows}
-use Rattle.verdict.specs.Reached.{marked}
+use Rattle.verdict.specs.Reached.{bit, marked}
 use Rattle.verdict.specs.Breaches.{noBreach, CycleBreach, Lex, key}
 use Rattle.verdict.specs.declared.Breach.{Breach}
 use Rattle.verdict.specs.declared.Condition.the-variants.{Cycle}
@@ -29,6 +29,11 @@ pub record Broken (marks : List ℕ) (n : Numbering) (square : List ℕ) (i j : 
   pub apart : i ≢ j
   pub leads : marked square i j ≡ true
   pub forbidden : Forbidden marks (replaceIn n i j)
+
+-- two rows share no bit before r, one of count positions or the place behind them
+pub record Unshared (row other count r : ℕ) : Type 0 where
+  pub within : r ≤ count
+  pub free : (b : ℕ) → b < r → ¬ ((bit row b ≡ true) × (bit other b ≡ true))
 
 -- the first pair, by the lowest i and then the lowest j, of n positions that has P
 pub record FirstAt (P : ℕ → ℕ → Type 0) (n i j : ℕ) : Type 0 where

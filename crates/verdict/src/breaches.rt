@@ -8,16 +8,17 @@ ghost use Rattle.table.specs.Lowest.{Tells};
 ghost use Rattle.verdict.specs.Marks.{Allowed, Policy};
 ghost use Rattle.verdict.specs.Below.{Lows};
 ghost use Rattle.verdict.specs.Reached.{Reached, Square};
-ghost use Rattle.verdict.specs.Squares.{Small};
+ghost use Rattle.verdict.specs.Squares.{ForbiddenIn, Small};
 ghost use Rattle.verdict.specs.Breaches.{noBreach, BreachAt, Verdict};
-ghost use Rattle.verdict.specs.Visits.{Visited, Broken, FirstPair, CycleAt};
+ghost use Rattle.verdict.specs.Visits.{Visited, Broken, Unshared, FirstPair, CycleAt};
 use super::Breach;
 use super::Condition;
 use super::below::forbidden_below;
 use super::below::forbidden_lows;
 use super::marks::mark_at;
 use super::reach::leads;
-use super::reach::reached;
+use super::reach::reached_by;
+use super::reach::read_rows;
 use table::Found;
 use table::privilege::Numbering;
 use table::privilege::deletion;
@@ -51,31 +52,42 @@ pub fn no_breach() -> Breach
 }
 
 // Does the square lead from i to another position j, by which i must not be replaced?
-fn is_broken(marks: &[u8], n: Numbering, square: &[u16; 16], i: usize, j: usize) -> bool
-    requires { ⌜ Small n × (i < n .count) × (j < n .count) ⌝ }
+fn is_broken(
+    marks: &[u8],
+    n: Numbering,
+    square: &[u16; 16],
+    forbidden: &[u16; 16],
+    i: usize,
+    j: usize,
+) -> bool
+    requires { ⌜ Small n × (i < n .count) × (j < n .count) × Square (n .count) (ForbiddenIn (now marks) n) (now forbidden) ⌝ }
     ensures { λ r. ⌜ Tells (Broken (now (marks .entry)) n (now (square .entry)) i j) r ⌝ }
 {
-    if i == j {
-        return false;
-    }
     if !leads(square, i, j) {
         return false;
     }
-    mark_at(marks, replacement(n, i, j)) == 2
+    leads(forbidden, i, j)
+}
+
+// Where a search for a bit that two rows share begins: behind the last position if they share none.
+fn first_column(row: u16, other: u16, count: usize) -> usize
+    ensures { λ r. ⌜ Unshared row other count r ⌝ }
+{
+    if row & other == 0 { count } else { 0 }
 }
 
 // The first such pair: the lowest i, then the lowest j.
-pub fn first_broken(marks: &[u8], n: Numbering, square: &[u16; 16]) -> Pair
-    requires { ⌜ Small n ⌝ }
+pub fn first_broken(marks: &[u8], n: Numbering, square: &[u16; 16], forbidden: &[u16; 16]) -> Pair
+    requires { ⌜ Small n × Square (n .count) (ForbiddenIn (now marks) n) (now forbidden) ⌝ }
     ensures { λ r. ⌜ FirstPair (Broken (now (marks .entry)) n (now (square .entry))) (n .count) r ⌝ }
 {
     let count = n.count;
     let mut found = Pair::Nothing;
     let mut i = 0;
     'search: while i < count {
-        let mut j = 0;
+        let mut j = first_column(square[i], forbidden[i], count);
         while j < count {
-            if is_broken(marks, n, square, i, j) {
+            if is_broken(marks, n, square, forbidden, i, j) {
                 found = Pair::At(i, j);
                 break 'search;
             }
@@ -160,8 +172,11 @@ fn choice_breach(
     requires { ⌜ Visited (now words) (now marks) (now low) x (now kids) × NumberedAs (now words) x n × IsChoice (now words) x ⌝ }
     ensures { λ r. ⌜ BreachAt (now (words .entry)) (now (marks .entry)) x r ⌝ }
 {
-    let square = reached(words, marks, x, kids, n);
-    let chain = first_broken(marks, n, &square);
+    let mut allowed = [0u16; 16];
+    let mut forbidden = [0u16; 16];
+    read_rows(kids, marks, n, &mut allowed, &mut forbidden);
+    let square = reached_by(words, marks, x, n, allowed);
+    let chain = first_broken(marks, n, &square, &forbidden);
     if let Pair::At(i, j) = chain {
         return Breach {
             condition: Condition::Chain,

@@ -7,53 +7,70 @@ ghost use Rattle.table.specs.Rule.{IsChoice, countOf, childrenAt};
 ghost use Rattle.table.specs.Privilege.{NumberedAs};
 ghost use Rattle.verdict.specs.Marks.{Allowed, Policy};
 ghost use Rattle.verdict.specs.Reached.{Plus, Reached, bit, marked, Marked, Square};
-ghost use Rattle.verdict.specs.Squares.{StepIn, Flags, Small, Row, RowJoined, Joined};
+ghost use Rattle.verdict.specs.Squares.{StepIn, MarkIn, Flags, Small, RowRead, Read, RowJoined, Joined};
 use super::marks::mark_at;
 use table::privilege::Numbering;
 use table::privilege::is_replaceable;
 use table::privilege::replacement;
 
-// May the child at i be replaced by the kind at j? 1 or 0.
-fn step(marks: &[u8], n: Numbering, i: usize, j: usize) -> u16
+// The mark of the replacement of i by j; 0 where there is none.
+fn mark_of(marks: &[u8], n: Numbering, i: usize, j: usize) -> u8
     requires { ⌜ Small n ⌝ }
-    ensures { λ r. ⌜ Flags (StepIn (now (marks .entry)) n i j) r ⌝ }
+    ensures { λ r. ⌜ MarkIn (now (marks .entry)) n i j r ⌝ }
 {
     if !is_replaceable(n, i, j) {
         return 0;
     }
-    if mark_at(marks, replacement(n, i, j)) == 1 {
-        1
-    } else {
-        0
-    }
+    mark_at(marks, replacement(n, i, j))
 }
 
-// The steps from i, as a row.
-fn step_row(marks: &[u8], n: Numbering, i: usize) -> u16
-    requires { ⌜ Small n ⌝ }
-    ensures { λ r. ⌜ Row (n .count) (StepIn (now (marks .entry)) n i) r ⌝ }
+// 1 if the mark is the one asked for, else 0.
+fn flag(mark: u8, asked: u8) -> u16
+    ensures { λ r. ⌜ Flags (mark ≡ asked) r ⌝ }
 {
-    let mut row: u16 = 0;
+    if mark == asked { 1 } else { 0 }
+}
+
+// Reads row i: what is allowed, and what is forbidden.
+fn read_row(
+    marks: &[u8],
+    n: Numbering,
+    i: usize,
+    allowed: &mut [u16; 16],
+    forbidden: &mut [u16; 16],
+)
+    requires { ⌜ Small n × (i < 16) × (length (now allowed) ≡ 16) × (length (now forbidden) ≡ 16) ⌝ }
+    ensures { λ _. ⌜ RowRead (now (marks .entry)) n i (now (allowed .entry)) (now (forbidden .entry)) (now (allowed .exit)) (now (forbidden .exit)) ⌝ }
+{
+    let mut steps: u16 = 0;
+    let mut bans: u16 = 0;
     let mut j = n.count;
     while 0 < j {
         j -= 1;
-        row = 2 * row + step(marks, n, i, j);
+        let mark = mark_of(marks, n, i, j);
+        steps = 2 * steps + flag(mark, 1);
+        bans = 2 * bans + flag(mark, 2);
     }
-    row
+    allowed[i] = steps;
+    forbidden[i] = bans;
 }
 
-// The steps between the children.
-fn steps(kids: &[u16], marks: &[u8], n: Numbering) -> [u16; 16]
-    requires { ⌜ Small n × (length (now kids) ≡ n .count) ⌝ }
-    ensures { λ r. ⌜ Square (n .count) (StepIn (now (marks .entry)) n) r ⌝ }
+// Reads the marks of a choice by its children and its numbering.
+pub fn read_rows(
+    kids: &[u16],
+    marks: &[u8],
+    n: Numbering,
+    allowed: &mut [u16; 16],
+    forbidden: &mut [u16; 16],
+)
+    requires { ⌜ Small n × (length (now kids) ≡ n .count) × (length (now allowed) ≡ 16) × (length (now forbidden) ≡ 16) ⌝ }
+    ensures { λ _. ⌜ Read (now (marks .entry)) n (now (allowed .exit)) (now (forbidden .exit)) ⌝ }
 {
-    let mut rows = [0u16; 16];
     let mut i = 0;
     while i < kids.len() {
-        rows[i] = step_row(marks, n, i);
+        read_row(marks, n, i, allowed, forbidden);
         i += 1;
     }
-    rows
 }
 
 // Is bit j of the row 1?
@@ -99,12 +116,29 @@ fn close(rows: [u16; 16], n: usize) -> [u16; 16]
     closed
 }
 
+// What is reached from what at the choice x of a policy, by its steps.
+pub fn reached_by(
+    words: &[u16],
+    marks: &[u8],
+    x: usize,
+    n: Numbering,
+    steps: [u16; 16],
+) -> [u16; 16]
+    requires { ⌜ Policy (now words) (now marks) × IsChoice (now words) x × NumberedAs (now words) x n × Square (n .count) (StepIn (now marks) n) steps ⌝ }
+    ensures { λ r. ⌜ Square (countOf (now (words .entry)) x) (Reached (now (words .entry)) (Allowed (now (marks .entry))) x) r ⌝ }
+{
+    close(steps, n.count)
+}
+
 // What is reached from what at the choice x of a policy, by its children and its numbering.
 pub fn reached(words: &[u16], marks: &[u8], x: usize, kids: &[u16], n: Numbering) -> [u16; 16]
     requires { ⌜ Policy (now words) (now marks) × IsChoice (now words) x × (now kids ≡ childrenAt (now words) x) × NumberedAs (now words) x n ⌝ }
     ensures { λ r. ⌜ Square (countOf (now (words .entry)) x) (Reached (now (words .entry)) (Allowed (now (marks .entry))) x) r ⌝ }
 {
-    close(steps(kids, marks, n), kids.len())
+    let mut allowed = [0u16; 16];
+    let mut forbidden = [0u16; 16];
+    read_rows(kids, marks, n, &mut allowed, &mut forbidden);
+    reached_by(words, marks, x, n, allowed)
 }
 
 // Do the rows lead from i to j?

@@ -7,33 +7,63 @@ use borrow.Author.Count.{below-none, below-more}
 use mathlib.Core.Path.{_≡_, refl}
 use native.Mathlib.Omega.{arith}
 use Prim.Native.Nat.{ℕ, _-_, _≤_, _<_}
+use Rattle.verdict.proofs.SquareLaws.{broken-marked}
 use Rattle.verdict.proofs.breaches.first_broken.Statement.{statement}
 use Rattle.verdict.proofs.breaches.first_broken.Tie as tie
 
 abbrev Inv-loop : tie.InvT-loop
-Inv-loop marks n square count found₀ i j₀ found j = (i < count) × (count ≡ n .count) × (j ≤ count) × (found ≡ Nothing) × ((a : ℕ) → a < i → (b : ℕ) → b < count → ¬ Broken marks n square a b) × ((b : ℕ) → b < j → ¬ Broken marks n square i b)
+Inv-loop marks n square forbidden count found₀ i j₀ found j = (i < count) × (count ≡ n .count) × (j ≤ count) × (found ≡ Nothing) × ((a : ℕ) → a < i → (b : ℕ) → b < count → ¬ Broken marks n square a b) × ((b : ℕ) → b < j → ¬ Broken marks n square i b)
 
 abbrev μ-loop : tie.MeasureT-loop
-μ-loop marks n square count found₀ i j₀ found j = count - j
+μ-loop marks n square forbidden count found₀ i j₀ found j = count - j
 
 abbrev Inv-search : tie.InvT-search
-Inv-search marks n square count found₀ i₀ found i = (i ≤ count) × (count ≡ n .count) × (found ≡ Nothing) × ((a : ℕ) → a < i → (b : ℕ) → b < count → ¬ Broken marks n square a b)
+Inv-search marks n square forbidden count found₀ i₀ found i = (i ≤ count) × (count ≡ n .count) × (found ≡ Nothing) × ((a : ℕ) → a < i → (b : ℕ) → b < count → ¬ Broken marks n square a b)
 
 abbrev μ-search : tie.MeasureT-search
-μ-search marks n square count found₀ i₀ found i = count - i
+μ-search marks n square forbidden count found₀ i₀ found i = count - i
+
+-- a row of the first 16
+row-here : (c : tie.In-search Inv-loop μ-loop Inv-search μ-search) → c .before .search .i < 16
+row-here c = omega (arith, c .search-test .taken, c .before .search .inv .1, c .before .before .before .pre .0 .few)
 
 search-holds : tie.Need-search-holds Inv-loop μ-loop Inv-search μ-search
 search-holds c = (search needs, refl, refl, below-none _)
 
+mul-first-column : tie.Need-mul-first-column Inv-loop μ-loop Inv-search μ-search
+mul-first-column c = search needs
+
+element-copy-out-first-column : tie.Need-element-copy-out-first-column Inv-loop μ-loop Inv-search μ-search
+element-copy-out-first-column c = row-here c
+
+mul-first-column-2 : tie.Need-mul-first-column-2 Inv-loop μ-loop Inv-search μ-search
+mul-first-column-2 c = search needs
+
+element-copy-out-first-column-2 : tie.Need-element-copy-out-first-column-2 Inv-loop μ-loop Inv-search μ-search
+element-copy-out-first-column-2 c = row-here (c .before)
+
+first-column-requires : tie.Need-first-column-requires Inv-loop μ-loop Inv-search μ-search
+first-column-requires c κs = search needs
+
 loop-holds : tie.Need-loop-holds Inv-loop μ-loop Inv-search μ-search
 loop-holds c =
-    let v = c .before .search .inv in
-    (c .search-test .taken, v .1, search needs, v .2, v .3, below-none _)
+    let at = c .before .before .before in
+    let v = at .before .search .inv in
+    let start = at .before .before .before in
+    let column = c .first-column .ensures in (
+      at .search-test .taken,
+      v .1,
+      column .within,
+      v .2,
+      v .3,
+      λ b l broken. column .free b l (broken .leads, broken-marked (start .pre .1) (omega (arith, at .search-test .taken, v .1)) (omega (arith, column .within, v .1)) broken),
+    )
 
 is-broken-requires : tie.Need-is-broken-requires Inv-loop μ-loop Inv-search μ-search
 is-broken-requires c κs =
     let v = c .before .loop .inv in
-    (c .before .before .before .before .before .pre, omega arith, omega (arith, c .loop-test .taken))
+    let start = c .before .before .before .before .before .before .before .before in
+    (start .pre .0, omega arith, omega (arith, c .loop-test .taken), start .pre .1)
 
 add-j : tie.Need-add-j Inv-loop μ-loop Inv-search μ-search
 add-j c = search needs
@@ -84,6 +114,11 @@ first-broken-spec =
     Inv-search
     μ-search
     search-holds
+    mul-first-column
+    element-copy-out-first-column
+    mul-first-column-2
+    element-copy-out-first-column-2
+    first-column-requires
     loop-holds
     is-broken-requires
     add-j

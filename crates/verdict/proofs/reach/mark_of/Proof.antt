@@ -1,0 +1,35 @@
+-- Whether there is such a privilege was asked. Assumes nothing.
+use borrow.Author.Needs.{needs}
+use mathlib.Core.Path.{refl}
+use borrow.Author.Tests.{not-true, not-false}
+use Rattle.table.specs.Privilege.{ReplaceableIn}
+use Rattle.table.proofs.Lowest.{told-yes, told-no}
+use Rattle.verdict.specs.Squares.{there, none}
+use Rattle.verdict.proofs.reach.mark_of.Statement.{statement}
+use Rattle.verdict.proofs.reach.mark_of.Tie as tie
+
+-- past the test the replacement can be made
+can : (c : tie.Else1) → let a = c .before .before .before .args in ReplaceableIn (a .n) (a .i) (a .j)
+can c = told-yes (c .before .is-replaceable .result) (c .before .is-replaceable .ensures) (not-false _ (c .if1 .left))
+
+is-replaceable-requires : tie.Need-is-replaceable-requires
+is-replaceable-requires c κs = search needs
+
+returns : tie.Need-returns
+returns c = let asked = c .before .is-replaceable in none (told-no (asked .result) (asked .ensures) (not-true _ (c .if1 .taken))) refl
+
+replacement-requires : tie.Need-replacement-requires
+replacement-requires c κs =
+    let small = c .before .before .before .pre in
+    record { low = small .low; few = small .few; from = can c .from; to = can c .to }
+
+mark-at-requires : tie.Need-mark-at-requires
+mark-at-requires c κs = search needs
+
+returns-2 : tie.Need-returns-2
+returns-2 c = there (can (c .before .before)) (rw (← c .before .replacement .ensures) (c .mark-at .ensures))
+
+pub mark-of-spec : {M : Type 1} → statement M
+mark-of-spec =
+    tie.close
+    (tie.spec is-replaceable-requires returns replacement-requires mark-at-requires returns-2)
