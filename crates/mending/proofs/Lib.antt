@@ -4,5 +4,6 @@ pub mod Mended
 pub mod Staying
 pub mod Answered
 pub mod Next
+pub mod Rows
 pub mod MendTests
 pub mod MendSamples

@@ -34,7 +34,7 @@ use Rattle.verdict.proofs.SquareLaws.{step-out, step-into, told-marked}
 use Rattle.verdict.proofs.Breached.{reached-from, reached-to, star-first, star-closed, star-free, choice-only, chain-none, chain-first, choice-at, CyclesFrom, cycle-first}
 use Rattle.mending.proofs.Counting.{taken-here}
 use Rattle.mending.specs.Mends.{Leads, LowestLead, Takes}
-use Rattle.mending.specs.Taking.{CleanUpTo, Visited, LeadsIn, LowestIn, SpoiltAt}
+use Rattle.mending.specs.Taking.{CleanUpTo, Visited, LeadsIn, LowestIn, SpoiltAt, TakenAt}
 
 -- the square's leads are the choice's
 module _ {ws m : List ℕ} {x : ℕ} {n : Numbering} {square : List ℕ} (numbered : NumberedAs ws x n) (choice : IsChoice ws x)
@@ -61,12 +61,12 @@ module _ {ws m : List ℕ} {x : ℕ} {n : Numbering} {square : List ℕ} (number
   some-lead {i} {j} (last s) = (j, lead-into (record { step = s; on = inl refl }))
   some-lead {i} {j} (next k s r) = (k, lead-into (record { step = s; on = inr r }))
 
-  pub lowest-out : {i j p : ℕ} → j < countOf ws x → LowestIn m n square i j p → LowestLead ws m x i j p
-  lowest-out {i} {j} hj l = record {
-    k = l .k;
+  pub lowest-out : {i j k : ℕ} → j < countOf ws x → LowestIn m n square i j k → LowestLead ws m x i j (replaceIn n i k)
+  lowest-out {i} {j} {k} hj l = record {
+    k = k;
     leads = lead-out hj (l .leads);
     lowest = λ a h b. l .lowest a h (lead-into b);
-    is = l .is ∙ replace-in numbered i (l .k);
+    is = replace-in numbered i k;
   }
 
 -- where something is forbidden below y, there is a lowest
@@ -103,7 +103,7 @@ module _ {ws m low : List ℕ} {x : ℕ} {kids : List ℕ} {n : Numbering} (v : 
 
   -- a star that its insert and delete open, with something forbidden below its child
   pub star-next : IsStar ws x → Allowed m (insertOf ws x) → Allowed m (deleteOf ws x) → getD low (childAt ws x 0) 0 < 65535
-      → (b : Breach) × FirstBreach ws m b × (b .element ≡ x) × Takes ws m (b .condition) b (deleteOf ws x)
+      → TakenAt ws m x (deleteOf ws x)
   star-next s i d l =
       let w = worst ws m (childAt ws x 0) (kid-spoilt (omega (arith, facts (v .policy .accepted) .star-one x s)) l) in (
         record { condition = InsertDelete; element = x; i = 0; j = 0; privilege = w .0 },
@@ -116,8 +116,7 @@ module _ {ws m low : List ℕ} {x : ℕ} {kids : List ℕ} {n : Numbering} (v : 
   star-none s l = star-free ws m x s (λ q f. omega (arith, kid-low (omega (arith, facts (v .policy .accepted) .star-one x s)) f))
 
   module _ (choice : IsChoice ws x) {square : List ℕ} (tells : Square (countOf ws x) (Reached ws (Allowed m) x) square) where
-    pub chain-next : {i j p : ℕ} → FirstAt (Broken m n square) (n .count) i j → LowestIn m n square i j p
-        → (b : Breach) × FirstBreach ws m b × (b .element ≡ x) × Takes ws m (b .condition) b p
+    pub chain-next : {i j k : ℕ} → FirstAt (Broken m n square) (n .count) i j → LowestIn m n square i j k → TakenAt ws m x (replaceIn n i k)
     chain-next {i} {j} f l = (
       record { condition = Chain; element = x; i = i; j = j; privilege = replaceIn n i j },
       at-first ws m (v .clean) (chain-first ws m x choice (v .numbered) tells f) (λ e. let z : _≡_ {A = ℕ} 0 2 = ap conditionNumber (sym e) in omega arith),
@@ -139,8 +138,8 @@ module _ {ws m low : List ℕ} {x : ℕ} {kids : List ℕ} {n : Numbering} (v : 
         }
 
     module _ (free : (a : ℕ) → a < n .count → (b : ℕ) → b < n .count → ¬ Broken m n square a b) where
-      pub cycle-next : {i p : ℕ} → i < countOf ws x → SpoiltAt low kids square i → ((k : ℕ) → k < i → ¬ SpoiltAt low kids square k) → LowestIn m n square i i p
-          → (b : Breach) × FirstBreach ws m b × (b .element ≡ x) × Takes ws m (b .condition) b p
+      pub cycle-next : {i k : ℕ} → i < countOf ws x → SpoiltAt low kids square i → ((l : ℕ) → l < i → ¬ SpoiltAt low kids square l) → LowestIn m n square i i k
+          → TakenAt ws m x (replaceIn n i k)
       cycle-next {i} h s lower l =
           let w = worst ws m (childAt ws x i) (kid-spoilt h (rw (kid-is i) at (s .spoilt))) in
           let from : CyclesFrom ws m x i = λ c g e. elim (le-or-lt i (c .i)) [ inl k ↦ k | inr k ↦ absurd (lower (c .i) k (cycle-spoilt c g e)) ] in (

@@ -19,6 +19,8 @@ use Rattle.verdict.specs.Reached.{marked}
 use Rattle.verdict.specs.Squares.{StepIn}
 use Rattle.verdict.specs.Breaches.{IsBreach, FirstBreach}
 use Rattle.verdict.specs.declared.Breach.{Breach}
+use Rattle.verdict.specs.declared.breaches.Pair.{Pair}
+use Rattle.verdict.specs.declared.breaches.Pair.the-variants as Pair
 use Rattle.mending.specs.Mends.{Takes}
 
 -- a number for each type: below 65,535 exactly if something is forbidden below it
@@ -56,12 +58,10 @@ pub record LeadsIn (marks : List ℕ) (n : Numbering) (square : List ℕ) (i j k
   pub step : StepIn marks n i k
   pub on : (k ≡ j) ⊎ (marked square k j ≡ true)
 
--- the lowest k that leads from i to j: p is the replacement by it
-pub record LowestIn (marks : List ℕ) (n : Numbering) (square : List ℕ) (i j p : ℕ) : Type 0 where
-  pub k : ℕ
+-- k is the lowest that leads from i to j
+pub record LowestIn (marks : List ℕ) (n : Numbering) (square : List ℕ) (i j k : ℕ) : Type 0 where
   pub leads : LeadsIn marks n square i j k
   pub lowest : (l : ℕ) → l < k → ¬ LeadsIn marks n square i j l
-  pub is : p ≡ replaceIn n i k
 
 -- the square leads from i back to i, and something is forbidden below the child there
 pub record SpoiltAt (low kids square : List ℕ) (i : ℕ) : Type 0 where
@@ -73,7 +73,11 @@ abbrev pub SpoiltCycle : List ℕ → List ℕ → List ℕ → Found → Type 0
 SpoiltCycle low kids square (At i) = (i < length kids) × SpoiltAt low kids square i × ((k : ℕ) → k < i → ¬ SpoiltAt low kids square k)
 SpoiltCycle low kids square Nothing = (k : ℕ) → k < length kids → ¬ SpoiltAt low kids square k
 
--- what the rule takes next at type x, or nothing where x has no breach
-abbrev pub NextTaken : List ℕ → List ℕ → ℕ → Found → Type 0
-NextTaken ws m x (At p) = (b : Breach) × FirstBreach ws m b × (b .element ≡ x) × Takes ws m (b .condition) b p
-NextTaken ws m x Nothing = CleanUpTo ws m (x + 1)
+-- p is what the rule takes next, at type x
+abbrev pub TakenAt : List ℕ → List ℕ → ℕ → ℕ → Type 0
+TakenAt ws m x p = (b : Breach) × FirstBreach ws m b × (b .element ≡ x) × Takes ws m (b .condition) b p
+
+-- the replacement that the rule takes next at the choice x, or none where x has no breach
+abbrev pub NextTaken : List ℕ → List ℕ → ℕ → Numbering → Pair → Type 0
+NextTaken ws m x n (Pair.At i k) = StepIn m n i k × TakenAt ws m x (replaceIn n i k)
+NextTaken ws m x n Pair.Nothing = CleanUpTo ws m (x + 1)

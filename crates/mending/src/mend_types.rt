@@ -9,20 +9,23 @@ ghost use Rattle.verdict.specs.Marks.{Policy};
 ghost use Rattle.mending.specs.Mends.{Mends};
 ghost use Rattle.mending.specs.Taking.{Spoilt, CleanUpTo, Visited, Cleaned};
 use super::taking::next_taken;
-use table::Found;
 use table::privilege::Numbering;
 use table::privilege::deletion;
 use table::privilege::insertion;
 use table::privilege::numbers_at;
 use table::privilege::privileges_at;
+use table::privilege::replacement;
 use table::rule::Rule;
 use table::rule::children;
 use table::rule::rule_at;
 use table::words::types;
 use table::words::word_at;
 use verdict::below::forbidden_lows;
+use verdict::breaches::Pair;
 use verdict::marks::mark_at;
-use verdict::reach::reached;
+use verdict::reach::reached_by;
+use verdict::reach::read_rows;
+use verdict::reach::toggled;
 
 // Mends the star x: where its insert and delete are allowed and something is forbidden below its child, the delete is forbidden.
 fn mend_star(
@@ -62,14 +65,19 @@ fn mend_choice(
     requires { ⌜ Visited (now words) (now m) (now low) x (now kids) n × IsChoice (now words) x ⌝ }
     ensures { λ r. ⌜ Cleaned (now (words .entry)) (now (low .entry)) x (now (m .entry)) (now (m .exit)) r ⌝ }
 {
+    let mut allowed = [0u16; 16];
+    let mut forbidden = [0u16; 16];
+    read_rows(kids, m, n, &mut allowed, &mut forbidden);
     let mut count = 0;
     loop {
-        let square = reached(words, m, x, kids, n);
-        let taken = next_taken(words, m, low, x, kids, n, &square);
-        let Found::At(p) = taken else {
+        let square = reached_by(words, m, x, n, allowed);
+        let taken = next_taken(words, m, low, x, kids, n, &square, &allowed, &forbidden);
+        let Pair::At(i, k) = taken else {
             return count;
         };
-        m[p] = 2;
+        m[replacement(n, i, k)] = 2;
+        allowed[i] = toggled(allowed[i], k);
+        forbidden[i] = toggled(forbidden[i], k);
         count += 1;
     }
 }

@@ -7,27 +7,29 @@ ghost use Rattle.table.specs.Lowest.{Lowest, Tells};
 ghost use Rattle.table.specs.Rule.{IsChoice, countOf};
 ghost use Rattle.verdict.specs.Marks.{Allowed};
 ghost use Rattle.verdict.specs.Reached.{Reached, Square, marked};
-ghost use Rattle.verdict.specs.Squares.{Small};
+ghost use Rattle.verdict.specs.Squares.{StepIn, Small, Read};
 ghost use Rattle.mending.specs.Taking.{Visited, LeadsIn, LowestIn, SpoiltCycle, NextTaken};
 use table::Found;
 use table::privilege::Numbering;
-use table::privilege::is_replaceable;
-use table::privilege::replacement;
 use table::words::word_at;
 use verdict::breaches::Pair;
 use verdict::breaches::first_broken;
-use verdict::marks::mark_at;
 use verdict::reach::leads;
 
 // Does k lead from i to j?
-fn is_lead(marks: &[u8], n: Numbering, square: &[u16; 16], i: usize, j: usize, k: usize) -> bool
-    requires { ⌜ Small n × (j < 16) ⌝ }
+fn is_lead(
+    marks: &[u8],
+    n: Numbering,
+    square: &[u16; 16],
+    allowed: &[u16; 16],
+    i: usize,
+    j: usize,
+    k: usize,
+) -> bool
+    requires { ⌜ Small n × (i < n .count) × (j < 16) × (k < n .count) × Square (n .count) (StepIn (now marks) n) (now allowed) ⌝ }
     ensures { λ r. ⌜ Tells (LeadsIn (now (marks .entry)) n (now (square .entry)) i j k) r ⌝ }
 {
-    if !is_replaceable(n, i, k) {
-        return false;
-    }
-    if mark_at(marks, replacement(n, i, k)) != 1 {
+    if !leads(allowed, i, k) {
         return false;
     }
     if k == j {
@@ -36,16 +38,23 @@ fn is_lead(marks: &[u8], n: Numbering, square: &[u16; 16], i: usize, j: usize, k
     leads(square, k, j)
 }
 
-// The replacement of i by the lowest k that leads from i to j.
-fn lowest_lead(marks: &[u8], n: Numbering, square: &[u16; 16], i: usize, j: usize) -> usize
-    requires { ⌜ Small n × (j < 16) × ((k : ℕ) × LeadsIn (now marks) n (now square) i j k) ⌝ }
+// The lowest k that leads from i to j.
+fn lowest_lead(
+    marks: &[u8],
+    n: Numbering,
+    square: &[u16; 16],
+    allowed: &[u16; 16],
+    i: usize,
+    j: usize,
+) -> usize
+    requires { ⌜ Small n × (j < 16) × ((k : ℕ) × LeadsIn (now marks) n (now square) i j k) × Square (n .count) (StepIn (now marks) n) (now allowed) ⌝ }
     ensures { λ r. ⌜ LowestIn (now (marks .entry)) n (now (square .entry)) i j r ⌝ }
 {
     let mut k = 0;
-    while !is_lead(marks, n, square, i, j, k) {
+    while !is_lead(marks, n, square, allowed, i, j, k) {
         k += 1;
     }
-    replacement(n, i, k)
+    k
 }
 
 // The lowest position from which the square leads back to it, with something forbidden below the child there.
@@ -65,7 +74,7 @@ fn first_cycle(low: &[u16; 256], kids: &[u16], square: &[u16; 16]) -> Found
     Found::Nothing
 }
 
-// What the rule takes next at the choice x, whose square tells what is reached.
+// What the rule takes next at the choice x, whose squares tell what is reached, allowed and forbidden: the replacement of one position by another.
 pub fn next_taken(
     words: &[u16],
     m: &[u8],
@@ -74,17 +83,19 @@ pub fn next_taken(
     kids: &[u16],
     n: Numbering,
     square: &[u16; 16],
-) -> Found
-    requires { ⌜ Visited (now words) (now m) (now low) x (now kids) n × IsChoice (now words) x × Square (countOf (now words) x) (Reached (now words) (Allowed (now m)) x) (now square) ⌝ }
-    ensures { λ r. ⌜ NextTaken (now (words .entry)) (now (m .entry)) x r ⌝ }
+    allowed: &[u16; 16],
+    forbidden: &[u16; 16],
+) -> Pair
+    requires { ⌜ Visited (now words) (now m) (now low) x (now kids) n × IsChoice (now words) x × Square (countOf (now words) x) (Reached (now words) (Allowed (now m)) x) (now square) × Read (now m) n (now allowed) (now forbidden) ⌝ }
+    ensures { λ r. ⌜ NextTaken (now (words .entry)) (now (m .entry)) x n r ⌝ }
 {
-    let chain = first_broken(m, n, square);
+    let chain = first_broken(m, n, square, forbidden);
     if let Pair::At(i, j) = chain {
-        return Found::At(lowest_lead(m, n, square, i, j));
+        return Pair::At(i, lowest_lead(m, n, square, allowed, i, j));
     }
     let cycle = first_cycle(low, kids, square);
     if let Found::At(i) = cycle {
-        return Found::At(lowest_lead(m, n, square, i, i));
+        return Pair::At(i, lowest_lead(m, n, square, allowed, i, i));
     }
-    Found::Nothing
+    Pair::Nothing
 }

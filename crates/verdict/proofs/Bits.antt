@@ -1,17 +1,17 @@
 -- The bits of a word: of its double, of two words joined, of one that is written from its highest bit down. Assumes nothing.
 use Prim.Native.Nat.{ℕ, zero, suc, _+_, _-_, _*_, _/_, _%_, _^_, _≤_, _<_}
 use mathlib.Core.Path.{_≡_, refl, sym, ap, subst, _∙_}
-use mathlib.Core.Bool.{Bool, true, false, _||_, _&&_, true≢false}
-use native.Mathlib.Nat.{pow-suc, mul-comm, div-one, zero-div, div-div-eq-div-mul, pow-le-pow-right, zero-lt-suc}
+use mathlib.Core.Bool.{Bool, true, false, not, cond, _||_, _&&_, true≢false}
+use native.Mathlib.Nat.{pow-suc, mul-comm, div-one, zero-div, div-div-eq-div-mul, pow-le-pow-right, zero-lt-suc, one-mul, mod-eq-of-lt}
 use native.Mathlib.Omega.{arith}
-use lib.Bits.{bitOr, bitAnd, and-shr, and-mod, or-shr, or-mod, and-mask}
+use lib.Bits.{bitOr, bitAnd, bitXor, and-shr, and-mod, or-shr, or-mod, xor-shr, xor-mod, and-mask}
 use mathlib.Core.Logic.{_≢_}
 use mathlib.Core.List.{List}
 use Rattle.table.specs.declared.privilege.Numbering.{Numbering}
 use lib.Dec.{eqb}
 use Rattle.table.specs.Lowest.{Tells}
 use Rattle.verdict.specs.Reached.{bit}
-use Rattle.verdict.specs.Squares.{Flags, on, off, MarkIn, there, none, MarkedIn, Row}
+use Rattle.verdict.specs.Squares.{Flags, on, off, MarkIn, there, none, MarkedIn, Row, Toggled}
 use Rattle.verdict.proofs.SquareLaws.{flags-tell}
 
 -- the bit that a shift and a mask read
@@ -66,6 +66,50 @@ double-high r s j h =
     let power : 2 ^ suc j ≡ 2 * 2 ^ j = pow-suc 2 j ∙ mul-comm (2 ^ j) 2 in
     ap (λ (x : ℕ). eqb ((2 * r + s) / x % 2) 1) power
     ∙ ap (λ (x : ℕ). eqb (x % 2) 1) (sym (div-div-eq-div-mul (2 * r + s) 2 (2 ^ j)) ∙ ap (λ (x : ℕ). x / 2 ^ j) half)
+
+-- the bits of a power of two
+power-same : (k : ℕ) → bit (2 ^ k) k ≡ true
+power-same zero = refl
+power-same (suc k) =
+    let e : 2 ^ suc k ≡ 2 * 2 ^ k + 0 = pow-suc 2 k ∙ mul-comm (2 ^ k) 2 ∙ omega arith in
+    ap (λ (w : ℕ). bit w (suc k)) e ∙ double-high (2 ^ k) 0 k (zero-lt-suc 1) ∙ power-same k
+
+power-other : (k j : ℕ) → j ≢ k → bit (2 ^ k) j ≡ false
+power-other zero zero d = absurd (d refl)
+power-other zero (suc j) d = double-high 0 1 j (omega arith) ∙ bit-none j
+power-other (suc k) zero d =
+    let e : 2 ^ suc k ≡ 2 * 2 ^ k + 0 = pow-suc 2 k ∙ mul-comm (2 ^ k) 2 ∙ omega arith in
+    ap (λ (w : ℕ). bit w 0) e ∙ double-low (2 ^ k) 0 (zero-lt-suc 1)
+power-other (suc k) (suc j) d =
+    let e : 2 ^ suc k ≡ 2 * 2 ^ k + 0 = pow-suc 2 k ∙ mul-comm (2 ^ k) 2 ∙ omega arith in
+    ap (λ (w : ℕ). bit w (suc j)) e ∙ double-high (2 ^ k) 0 j (zero-lt-suc 1) ∙ power-other k j (λ q. d (ap suc q))
+
+differs : (a b : ℕ) → a < 2 → b < 2 → eqb (bitXor a b) 1 ≡ cond (eqb b 1) (not (eqb a 1)) (eqb a 1)
+differs zero zero ha hb = refl
+differs zero (suc zero) ha hb = refl
+differs (suc zero) zero ha hb = refl
+differs (suc zero) (suc zero) ha hb = refl
+differs zero (suc (suc b)) ha hb = absurd (omega arith)
+differs (suc zero) (suc (suc b)) ha hb = absurd (omega arith)
+differs (suc (suc a)) b ha hb = absurd (omega arith)
+
+bit-xor : (a b j : ℕ) → bit (bitXor a b) j ≡ cond (bit b j) (not (bit a j)) (bit a j)
+bit-xor a b j =
+    ap (λ (r : ℕ). eqb (r % 2) 1) (xor-shr a b j)
+    ∙ ap (λ (r : ℕ). eqb r 1) (xor-mod (a / 2 ^ j) (b / 2 ^ j) 1)
+    ∙ differs (a / 2 ^ j % 2) (b / 2 ^ j % 2) (omega arith) (omega arith)
+
+-- a bit shifted to its place
+pub shifted : (k : ℕ) → k < 16 → 1 * 2 ^ k % 65536 ≡ 2 ^ k
+shifted k h =
+    let most : 2 ^ k ≤ 2 ^ 15 = let l : k ≤ 15 = omega arith in pow-le-pow-right {n = 2} (zero-lt-suc 1) l in
+    ap (λ (x : ℕ). x % 65536) (one-mul (2 ^ k)) ∙ mod-eq-of-lt (omega (arith, most))
+
+pub toggles : (row k : ℕ) → Toggled k row (bitXor row (2 ^ k))
+toggles row k = record {
+  here = bit-xor row (2 ^ k) k ∙ ap (λ (t : Bool). cond t (not (bit row k)) (bit row k)) (power-same k);
+  rest = λ b d. bit-xor row (2 ^ k) b ∙ ap (λ (t : Bool). cond t (not (bit row b)) (bit row b)) (power-other k b d);
+}
 
 -- the row tells P of the positions from j on, up to n
 pub record RowFrom (P : ℕ → Type 0) (n j row : ℕ) : Type 0 where

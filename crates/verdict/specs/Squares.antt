@@ -1,7 +1,8 @@
 -- The steps at a choice by its numbering, and what each part of the closure does to rows of 16 bits. Assumes nothing.
 use Prim.Native.Nat.{ℕ, _≤_, _<_}
 use mathlib.Core.Path.{_≡_}
-use mathlib.Core.Bool.{_||_, _&&_}
+use mathlib.Core.Logic.{_≢_}
+use mathlib.Core.Bool.{not, _||_, _&&_}
 use mathlib.Core.List.{List}
 use lib.ListN.{length, getD, set}
 use Rattle.table.specs.Lowest.{Tells}
@@ -64,3 +65,8 @@ RowJoined k row old new = (b : ℕ) → bit new b ≡ (bit old b || (bit old k &
 pub record Joined (k : ℕ) (old new : List ℕ) : Type 0 where
   pub size : length new ≡ 16
   pub all : (a : ℕ) → a < 16 → RowJoined k (getD old k 0) (getD old a 0) (getD new a 0)
+
+-- bit k is the other one, and the rest are as they were
+pub record Toggled (k old new : ℕ) : Type 0 where
+  pub here : bit new k ≡ not (bit old k)
+  pub rest : (b : ℕ) → b ≢ k → bit new b ≡ bit old b

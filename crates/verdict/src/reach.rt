@@ -7,7 +7,7 @@ ghost use Rattle.table.specs.Rule.{IsChoice, countOf, childrenAt};
 ghost use Rattle.table.specs.Privilege.{NumberedAs};
 ghost use Rattle.verdict.specs.Marks.{Allowed, Policy};
 ghost use Rattle.verdict.specs.Reached.{Plus, Reached, bit, marked, Marked, Square};
-ghost use Rattle.verdict.specs.Squares.{StepIn, MarkIn, Flags, Small, RowRead, Read, RowJoined, Joined};
+ghost use Rattle.verdict.specs.Squares.{StepIn, MarkIn, Flags, Small, RowRead, Read, RowJoined, Joined, Toggled};
 use super::marks::mark_at;
 use table::privilege::Numbering;
 use table::privilege::is_replaceable;
@@ -79,6 +79,14 @@ fn has(row: u16, j: usize) -> bool
     ensures { λ r. ⌜ r ≡ bit row j ⌝ }
 {
     (row >> j) & 1 == 1
+}
+
+// The row with bit k the other one.
+pub fn toggled(row: u16, k: usize) -> u16
+    requires { ⌜ k < 16 ⌝ }
+    ensures { λ r. ⌜ Toggled k row r ⌝ }
+{
+    row ^ (1 << k)
 }
 
 // A row, joined with another if it leads to k.

@@ -1,37 +1,63 @@
--- Each turn takes what the rule takes next, and one mark less is allowed. Assumes nothing.
+-- Each turn takes what the rule takes next, moves its bit from one square to the other, and one mark less is allowed. Assumes nothing.
 use borrow.Author.Needs.{needs}
-use Rattle.mending.proofs.Staying.{Mending, next-within, next-less, mending-take, mending-few}
-use Rattle.mending.proofs.Counting.{allowedIn}
-use Rattle.mending.specs.Taking.{start}
-use Rattle.table.specs.Privilege.{privileges}
+use Prim.Native.Nat.{_<_}
+use mathlib.Core.Path.{refl}
+use denote.Ref.{now}
 use native.Mathlib.Omega.{arith}
+use Rattle.table.specs.Privilege.{privileges, replaceIn}
+use Rattle.verdict.specs.Squares.{StepIn, Read}
+use Rattle.verdict.proofs.SquareLaws.{kids-here, small-of}
+use Rattle.mending.specs.Taking.{TakenAt, start}
+use Rattle.mending.proofs.Counting.{allowedIn}
+use Rattle.mending.proofs.Staying.{Mending, next-within, next-less, mending-take, mending-few}
+use Rattle.mending.proofs.Rows.{read-taken}
 use Rattle.mending.proofs.mend_types.mend_choice.Statement.{statement}
 use Rattle.mending.proofs.mend_types.mend_choice.Tie as tie
 
 abbrev Inv-loop : tie.InvT-loop
-Inv-loop words m₀ low x kids n count₀ m count = Mending words low x m₀ m count
+Inv-loop words m₀ low x kids n allowed₀ forbidden₀ count₀ m allowed forbidden count = Mending words low x m₀ m count × Read m n allowed forbidden
 
 abbrev μ-loop : tie.MeasureT-loop
-μ-loop words m₀ low x kids n count₀ m count = allowedIn m (privileges words)
+μ-loop words m₀ low x kids n allowed₀ forbidden₀ count₀ m allowed forbidden count = allowedIn m (privileges words)
+
+-- what was told to be taken: the replacement of one position by another, both below 16
+told : (c : tie.After-taken Inv-loop μ-loop) → let at = c .before .before .before .before .before .before .before .before .before in let a = at .before .before .before .before .before .before .before .before .args in let i = c .taken .given .0 .0 in let k = c .taken .given .0 .1 .0 in
+    StepIn (at .loop .m) (a .n) i k × TakenAt (now (a .words)) (at .loop .m) (a .x) (replaceIn (a .n) i k)
+told c = rw (c .taken .given .1) at (c .before .before .next-taken .ensures)
+
+from-few : (c : tie.After-taken Inv-loop μ-loop) → c .taken .given .0 .0 < 16
+from-few c = omega (arith, told c .0 .can .from, c .before .before .before .before .before .before .before .before .before .before .before .before .before .before .before .before .before .pre .0 .numbered .few)
+
+to-few : (c : tie.After-taken Inv-loop μ-loop) → c .taken .given .0 .1 .0 < 16
+to-few c = omega (arith, told c .0 .can .to, c .before .before .before .before .before .before .before .before .before .before .before .before .before .before .before .before .before .pre .0 .numbered .few)
+
+read-rows-requires : tie.Need-read-rows-requires Inv-loop μ-loop
+read-rows-requires c κs =
+    let v = c .before .before .before .before .before .before .pre .0 in
+    (small-of (v .numbered), kids-here (v .policy .accepted) (v .type) (v .kids-are) (v .numbered), refl, refl)
 
 loop-holds : tie.Need-loop-holds Inv-loop μ-loop
 loop-holds c =
-    let v = c .before .before .before .pre .0 in
-    record { follows = start; policy = v .policy; spoilt = v .spoilt; clean = v .clean }
+    let v = c .before .before .before .before .before .before .before .pre .0 in
+    (record { follows = start; policy = v .policy; spoilt = v .spoilt; clean = v .clean }, c .read-rows .ensures)
 
-reached-requires : tie.Need-reached-requires Inv-loop μ-loop
-reached-requires c κs =
-    let begin = c .before .before .before .before .before in
-    let v = begin .pre .0 in
-    (c .before .loop .inv .policy, begin .pre .1, v .kids-are, v .numbered)
+reached-by-requires : tie.Need-reached-by-requires Inv-loop μ-loop
+reached-by-requires c κs =
+    let at = c .before in
+    let begin = at .before .before .before .before .before .before .before .before in
+    (at .loop .inv .0 .policy, begin .pre .1, begin .pre .0 .numbered, at .loop .inv .1 .steps)
 
 next-taken-requires : tie.Need-next-taken-requires Inv-loop μ-loop
 next-taken-requires c κs =
-    let at = c .before .before .before .before in
-    let begin = at .before .before .before .before in
+    let at = c .before .before .before .before .before .before in
+    let begin = at .before .before .before .before .before .before .before .before in
     let v = begin .pre .0 in
-    let h = at .loop .inv in
-    (record { policy = h .policy; spoilt = h .spoilt; type = v .type; clean = h .clean; kids-are = v .kids-are; numbered = v .numbered }, begin .pre .1, c .before .before .reached .ensures)
+    let h = at .loop .inv .0 in (
+      record { policy = h .policy; spoilt = h .spoilt; type = v .type; clean = h .clean; kids-are = v .kids-are; numbered = v .numbered },
+      begin .pre .1,
+      c .before .before .before .before .reached-by .ensures,
+      at .loop .inv .1,
+    )
 
 enum-known-taken : tie.Need-enum-known-taken Inv-loop μ-loop
 enum-known-taken c = search needs
@@ -41,26 +67,67 @@ enum-told c = search needs
 
 same-length : tie.Need-same-length Inv-loop μ-loop
 same-length c =
-    let at = c .before .before .before .before .before .before .before in
-    let begin = at .before .before .before .before in
-    omega (arith, at .loop .inv .policy .fit .size, begin .pre .0 .policy .fit .size)
+    let at = c .before .before .before .before .before .before .before .before .before in
+    omega (arith, at .loop .inv .0 .policy .fit .size, at .before .before .before .before .before .before .before .before .pre .0 .policy .fit .size)
 
 returns : tie.Need-returns Inv-loop μ-loop
 returns c =
-    let h = c .before .before .before .before .before .before .before .loop .inv in
+    let h = c .before .before .before .before .before .before .before .before .before .loop .inv .0 in
     record { follows = h .follows; policy = h .policy; spoilt = h .spoilt; clean = rw (c .enum-told .given .1) at (c .before .before .next-taken .ensures) }
 
+replacement-requires : tie.Need-replacement-requires Inv-loop μ-loop
+replacement-requires c κs =
+    let can = told (c .before) .0 .can in
+    let numbered = c .before .before .before .before .before .before .before .before .before .before .before .before .before .before .before .before .before .before .pre .0 .numbered in
+    record { low = numbered .low; few = numbered .few; from = can .from; to = can .to }
+
 slice-write-m : tie.Need-slice-write-m Inv-loop μ-loop
-slice-write-m c = next-within (c .before .before .before .before .before .before .before .before .loop .inv) (rw (c .before .taken .given .1) at (c .before .before .before .next-taken .ensures))
+slice-write-m c = rw (c .replacement .ensures) (next-within (c .before .before .before .before .before .before .before .before .before .before .before .loop .inv .0) (told (c .before .before) .1))
+
+mul-toggled : tie.Need-mul-toggled Inv-loop μ-loop
+mul-toggled c = let few = from-few (c .before .before) in record { fits = omega arith }
+
+array-read-toggled : tie.Need-array-read-toggled Inv-loop μ-loop
+array-read-toggled c = from-few (c .before .before)
+
+toggled-requires : tie.Need-toggled-requires Inv-loop μ-loop
+toggled-requires c κs = to-few (c .before .before)
+
+mul-allowed : tie.Need-mul-allowed Inv-loop μ-loop
+mul-allowed c = let few = from-few (c .before .before .before) in record { fits = omega arith }
+
+array-write-allowed : tie.Need-array-write-allowed Inv-loop μ-loop
+array-write-allowed c = from-few (c .before .before .before)
+
+mul-toggled-2 : tie.Need-mul-toggled-2 Inv-loop μ-loop
+mul-toggled-2 c = let few = from-few (c .before .before .before) in record { fits = omega arith }
+
+array-read-toggled-2 : tie.Need-array-read-toggled-2 Inv-loop μ-loop
+array-read-toggled-2 c = from-few (c .before .before .before)
+
+toggled-requires-2 : tie.Need-toggled-requires-2 Inv-loop μ-loop
+toggled-requires-2 c κs = to-few (c .before .before .before)
+
+mul-forbidden : tie.Need-mul-forbidden Inv-loop μ-loop
+mul-forbidden c = let few = from-few (c .before .before .before .before) in record { fits = omega arith }
+
+array-write-forbidden : tie.Need-array-write-forbidden Inv-loop μ-loop
+array-write-forbidden c = from-few (c .before .before .before .before)
 
 add-count : tie.Need-add-count Inv-loop μ-loop
-add-count c = omega (arith, mending-few (c .before .before .before .before .before .before .before .before .loop .inv))
+add-count c = omega (arith, mending-few (c .before .before .before .before .before .before .before .before .before .before .before .before .before .loop .inv .0))
 
 loop-less : tie.Need-loop-less Inv-loop μ-loop
-loop-less c = next-less (c .before .before .before .before .before .before .before .before .loop .inv) (rw (c .before .taken .given .1) at (c .before .before .before .next-taken .ensures))
+loop-less c = rw (c .before .before .replacement .ensures) (next-less (c .before .before .before .before .before .before .before .before .before .before .before .before .before .loop .inv .0) (told (c .before .before .before .before) .1))
 
 loop-again : tie.Need-loop-again Inv-loop μ-loop
-loop-again c = mending-take (c .before .before .before .before .before .before .before .before .loop .inv) (rw (c .before .taken .given .1) at (c .before .before .before .next-taken .ensures))
+loop-again c =
+    let at = c .before .before .before .before .before .before .before .before .before .before .before .before .before in
+    let taken = told (c .before .before .before .before) in
+    rw (c .before .before .replacement .ensures) (
+      mending-take (at .loop .inv .0) (taken .1),
+      read-taken (taken .0) (next-within (at .loop .inv .0) (taken .1)) (from-few (c .before .before .before .before)) (at .loop .inv .1) (c .before .toggled .ensures) (c .toggled2 .ensures),
+    )
 
 pub mend-choice-spec : {M : Type 1} → statement M
 mend-choice-spec =
@@ -68,14 +135,26 @@ mend-choice-spec =
     (tie.spec
     Inv-loop
     μ-loop
+    read-rows-requires
     loop-holds
-    reached-requires
+    reached-by-requires
     next-taken-requires
     enum-known-taken
     enum-told
     same-length
     returns
+    replacement-requires
     slice-write-m
+    mul-toggled
+    array-read-toggled
+    toggled-requires
+    mul-allowed
+    array-write-allowed
+    mul-toggled-2
+    array-read-toggled-2
+    toggled-requires-2
+    mul-forbidden
+    array-write-forbidden
     add-count
     loop-less
     loop-again)

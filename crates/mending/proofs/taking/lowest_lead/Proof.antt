@@ -12,23 +12,22 @@ use Rattle.mending.proofs.taking.lowest_lead.Statement.{statement}
 use Rattle.mending.proofs.taking.lowest_lead.Tie as tie
 
 abbrev Inv-loop : tie.InvT-loop
-Inv-loop marks n square i j k₀ k = (l : ℕ) → l < k → ¬ LeadsIn marks n square i j l
+Inv-loop marks n square allowed i j k₀ k = (l : ℕ) → l < k → ¬ LeadsIn marks n square i j l
 
 abbrev μ-loop : tie.MeasureT-loop
-μ-loop marks n square i j k₀ k = n .count - k
+μ-loop marks n square allowed i j k₀ k = n .count - k
 
 -- the lead at which the loop stops
 found : (c : tie.Else1 Inv-loop μ-loop) → LeadsIn (now (c .before .before .before .before .args .marks)) (c .before .before .before .before .args .n) (now (c .before .before .before .before .args .square)) (c .before .before .before .before .args .i) (c .before .before .before .before .args .j) (c .before .before .loop .k)
 found c = told-yes (c .before .is-lead .result) (c .before .is-lead .ensures) (not-false _ (c .if1 .left))
 
--- where it goes on it is before the lead that there is
-position : (c : tie.Then1 Inv-loop μ-loop) → c .before .before .loop .k < c .before .before .before .before .args .n .count
-position c =
-    let start = c .before .before .before .before in
-    let lead = start .pre .2 in
-    elim (le-or-lt (lead .0) (c .before .before .loop .k)) [
-      | inl h ↦ absurd (below-more _ _ (c .before .before .loop .inv) (told-no (c .before .is-lead .result) (c .before .is-lead .ensures) (not-true _ (c .if1 .taken))) (lead .0) (omega arith) (lead .1))
-      | inr h ↦ omega (arith, lead .1 .step .can .to)
+-- where no lower one leads, it is not behind the lead that there is
+behind : (c : tie.At-loop Inv-loop μ-loop) → c .loop .k < c .before .before .args .n .count
+behind c =
+    let lead = c .before .before .pre .2 in
+    elim (le-or-lt (c .loop .k) (lead .0)) [
+      | inl h ↦ omega (arith, lead .1 .step .can .to)
+      | inr h ↦ absurd (c .loop .inv (lead .0) h (lead .1))
     ]
 
 loop-holds : tie.Need-loop-holds Inv-loop μ-loop
@@ -37,25 +36,19 @@ loop-holds c = below-none _
 is-lead-requires : tie.Need-is-lead-requires Inv-loop μ-loop
 is-lead-requires c κs =
     let start = c .before .before in
-    (start .pre .0, start .pre .1)
+    (start .pre .0, start .pre .2 .1 .step .can .from, start .pre .1, behind c, start .pre .3)
 
 add-k : tie.Need-add-k Inv-loop μ-loop
-add-k c = omega (arith, position c, c .before .before .before .before .pre .0 .few)
+add-k c = omega (arith, behind (c .before .before), c .before .before .before .before .pre .0 .few)
 
 loop-less : tie.Need-loop-less Inv-loop μ-loop
-loop-less c = omega (arith, position c)
+loop-less c = omega (arith, behind (c .before .before))
 
 loop-again : tie.Need-loop-again Inv-loop μ-loop
 loop-again c = below-more _ _ (c .before .before .loop .inv) (told-no (c .before .is-lead .result) (c .before .is-lead .ensures) (not-true _ (c .if1 .taken)))
 
-replacement-requires : tie.Need-replacement-requires Inv-loop μ-loop
-replacement-requires c κs =
-    let start = c .before .before .before .before in
-    let l = found c in
-    record { low = start .pre .0 .low; few = start .pre .0 .few; from = l .step .can .from; to = l .step .can .to }
-
 returns : tie.Need-returns Inv-loop μ-loop
-returns c = record { k = c .before .before .before .loop .k; leads = found (c .before); lowest = c .before .before .before .loop .inv; is = c .replacement .ensures }
+returns c = record { leads = found c; lowest = c .before .before .loop .inv }
 
 pub lowest-lead-spec : {M : Type 1} → statement M
 lowest-lead-spec =
@@ -68,5 +61,4 @@ lowest-lead-spec =
     add-k
     loop-less
     loop-again
-    replacement-requires
     returns)

@@ -30,13 +30,13 @@ lowest-lead-requires c κs =
     let f = rw (c .before .chain .given .1) at (found .first-broken .ensures) in
     let tells = start .pre .2 in
     let r = told-yes (marked (now (start .args .square)) _ _) (tells .tells _ _ (omega (arith, n .count, f .from)) (omega (arith, n .count, f .to))) (f .holds .leads) in
-    (record { low = n .low; few = n .few }, omega (arith, f .to, n .few), some-lead n (start .pre .1) tells r)
+    (record { low = n .low; few = n .few }, omega (arith, f .to, n .few), some-lead n (start .pre .1) tells r, start .pre .3 .steps)
 
 returns : tie.Need-returns
 returns c =
     let found = c .before .before .before .before in
     let start = found .before .before .before .before in
-    chain-next (start .pre .0) (start .pre .1) (start .pre .2) (rw (c .before .before .chain .given .1) at (found .first-broken .ensures)) (c .lowest-lead .ensures)
+    (c .lowest-lead .ensures .leads .step, chain-next (start .pre .0) (start .pre .1) (start .pre .2) (rw (c .before .before .chain .given .1) at (found .first-broken .ensures)) (c .lowest-lead .ensures))
 
 enum-told : tie.Need-enum-told
 enum-told c = search needs
@@ -60,7 +60,7 @@ lowest-lead-requires-2 c κs =
     let f = rw (c .before .cycle .given .1) at (found .first-cycle .ensures) in
     let tells = start .pre .2 in
     let r = told-yes (marked (now (start .args .square)) _ _) (tells .tells _ _ (omega (arith, all-here start, f .0)) (omega (arith, all-here start, f .0))) (f .1 .circle) in
-    (record { low = n .low; few = n .few }, omega (arith, all-here start, f .0, n .count, n .few), some-lead n (start .pre .1) tells r)
+    (record { low = n .low; few = n .few }, omega (arith, all-here start, f .0, n .count, n .few), some-lead n (start .pre .1) tells r, start .pre .3 .steps)
 
 returns-2 : tie.Need-returns-2
 returns-2 c =
@@ -68,7 +68,7 @@ returns-2 c =
     let start = found .before .before .before .before .before .before .before in
     let free = rw (found .before .enum-told .given .1) at (found .before .before .before .first-broken .ensures) in
     let f = rw (c .before .before .cycle .given .1) at (found .first-cycle .ensures) in
-    cycle-next (start .pre .0) (start .pre .1) (start .pre .2) free (omega (arith, all-here start, f .0)) (f .1) (f .2) (c .lowest-lead2 .ensures)
+    (c .lowest-lead2 .ensures .leads .step, cycle-next (start .pre .0) (start .pre .1) (start .pre .2) free (omega (arith, all-here start, f .0)) (f .1) (f .2) (c .lowest-lead2 .ensures))
 
 enum-told-2 : tie.Need-enum-told-2
 enum-told-2 c = search needs
