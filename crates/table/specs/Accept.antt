@@ -1,5 +1,5 @@
--- What one pass over the types of a table shows, with a stamp for each number below 256: 0 while it is nobody's child, else one more than
--- its latest parent's. Assumes nothing.
+-- What one pass over the types of a table shows, with a stamp for each number below 256: 0 while it is nobody's child, else one more than its
+-- latest parent's number. Assumes nothing.
 use Prim.Native.Nat.{ℕ, _<_}
 use mathlib.Core.Path.{_≡_}
 use mathlib.Core.Logic.{_≢_, _⊎_}
@@ -11,7 +11,7 @@ use Rattle.table.specs.Rule.{Child}
 use Rattle.table.specs.Check.{Bounded, Differ, Passes}
 use Rattle.table.specs.declared.check.Check.the-variants.{Kind, Count, Stretch, Bounds, Twice, Total}
 
--- the children of type t are in their bounds and all different, and only they got a stamp
+-- the children of type t are in their bounds and all different, and nothing else got a stamp
 pub record Stamped (e t : ℕ) (kids before after : List ℕ) : Type 0 where
   pub bounded : Bounded e t kids
   pub differ : Differ kids
@@ -22,7 +22,7 @@ pub record Stamped (e t : ℕ) (kids before after : List ℕ) : Type 0 where
 abbrev pub Stamps : List ℕ → List ℕ → Type 0
 Stamps ws stamps = (x : ℕ) → x < types ws → getD stamps x 0 ≢ 0 → (y : ℕ) × Child ws y x
 
--- checks 3 to 7 and 9 pass
+-- checks 3 to 7 and 9 pass, and only children have a stamp
 pub record TypesPass (ws stamps : List ℕ) : Type 0 where
   pub kinds : Passes ws Kind
   pub counts : Passes ws Count

@@ -1,5 +1,5 @@
-// Does a table pass every check? One pass over its types, with a stamp for each: 0 while it is nobody's child, else one more than the number of
-// its latest parent. Contracts cite specs/Accept.
+// Accepting a table in one pass over its types, with a stamp for each: 0 while it is nobody's child, else one more than its latest parent's number.
+// Contracts cite specs/Accept. Only a yes promises something.
 ghost use mathlib.Core.Path.{_≡_};
 ghost use mathlib.Core.Bool.{true};
 ghost use mathlib.Core.Logic.{_≢_};
@@ -19,7 +19,7 @@ use super::words::stretch;
 use super::words::types;
 use super::words::word_at;
 
-// Stamps each child of type t. Yes where each is below e and above t, and none stands twice.
+// Stamps the children of type t. Yes: each is below e and above t, none stands twice, and nothing else got a stamp.
 fn stamp_children(kids: &[u16], e: usize, t: usize, stamps: &mut [u16; 256]) -> bool
     requires { ⌜ (t < e) × (e ≤ 256) × (length (now stamps) ≡ 256) ⌝ }
     ensures { λ r. ⌜ (r ≡ true → Stamped e t (now (kids .entry)) (now (stamps .entry)) (now (stamps .exit))) ⌝ }
@@ -43,7 +43,7 @@ fn stamp_children(kids: &[u16], e: usize, t: usize, stamps: &mut [u16; 256]) -> 
     true
 }
 
-// Do all types pass checks 3 to 7, and their sum check 9? Stamps every child.
+// Stamps every type's children. Yes: checks 3 to 7 and 9 pass, and only children have a stamp.
 fn types_pass(words: &[u16], stamps: &mut [u16; 256]) -> bool
     requires { ⌜ Laid (now words) × (now stamps ≡ replicate 256 0) ⌝ }
     ensures { λ r. ⌜ (r ≡ true → TypesPass (now (words .entry)) (now (stamps .exit))) ⌝ }
@@ -97,7 +97,7 @@ fn are_stamped(stamps: &[u16; 256], e: usize) -> bool
     true
 }
 
-// Does the table pass every check? Yes is right; where it says no, the checks are searched by number.
+// Does the table pass every check? One pass over its types. Yes is right; where it says no, the checks are searched by number.
 pub fn is_accepted(words: &[u16]) -> bool
     ensures { λ r. ⌜ (r ≡ true → Accepted (now (words .entry))) ⌝ }
 {

@@ -1,7 +1,6 @@
 -- The loop keeps what the children passed are, and their stamps. Assumes nothing.
 use borrow.Author.Needs.{needs}
 use Rattle.table.proofs.Stamps.{StampedSoFar, stamp-start, stamp-more, stamp-all}
-use native.Mathlib.Omega.{arith}
 use lib.ListN.{length}
 use mathlib.Core.Path.{sym}
 use mathlib.Core.Bool.{true≢false}
