@@ -1,6 +1,7 @@
 -- The loop keeps what the children passed are, and their stamps. Assumes nothing.
 use borrow.Author.Needs.{needs}
 use Rattle.table.proofs.Stamps.{StampedSoFar, stamp-start, stamp-more, stamp-all}
+use native.Mathlib.Omega.{arith}
 use lib.ListN.{length}
 use mathlib.Core.Path.{sym}
 use mathlib.Core.Bool.{true≢false}
@@ -55,9 +56,13 @@ loop-less c = search needs
 
 loop-again : tie.Need-loop-again Inv-loop μ-loop
 loop-again c =
-    let at = c .before .before .before .before .before .before in
-    let child = c .before .before .before .before .word-at in
-    stamp-more (at .loop .inv) (c .before .before .before .before .before .loop-test .taken) (at .before .before .pre .1) (child .result) (child .ensures .is) (c .before .before .before .if1 .left) (c .before .before .if2 .left) (c .if3 .left)
+    let tested = c .before .before in
+    let child = tested .before .before .word-at in
+    let at = tested .before .before .before .before in
+    stamp-more (at .loop .inv) (tested .before .before .before .loop-test .taken) (at .before .before .pre .1) (child .result) (child .ensures .is)
+    (tested .before .if1 .left)
+    (tested .if2 .left)
+    (omega (arith, c .if3 .left))
 
 returns-4 : tie.Need-returns-4 Inv-loop μ-loop
 returns-4 c = λ e. stamp-all (c .before .loop .inv) (c .loop-test .left)

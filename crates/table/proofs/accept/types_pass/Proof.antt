@@ -8,7 +8,7 @@ use native.Mathlib.Omega.{arith}
 use denote.Ref.{now}
 use mathlib.Core.Path.{refl, sym, _∙_}
 use mathlib.Core.Bool.{true≢false}
-use Prim.Native.Nat.{ℕ, _-_}
+use Prim.Native.Nat.{ℕ, _-_, _<_}
 use Rattle.table.proofs.accept.types_pass.Statement.{statement}
 use Rattle.table.proofs.accept.types_pass.Tie as tie
 
@@ -28,6 +28,9 @@ module _ (c : tie.Else3 Inv-loop μ-loop) where
 
   abbrev count : ℕ
   count = c .before .before .before .before .before .record-word2 .result
+
+  type : at .loop .t < at .before .types .result
+  type = c .before .before .before .before .before .before .before .loop-test .taken
 
   read : Read (now (at .before .before .before .args .words)) (at .loop .t) kind (at .loop .index) count
   read = record {
@@ -83,7 +86,7 @@ stretch-requires c κs = search needs
 stamp-children-requires : tie.Need-stamp-children-requires Inv-loop μ-loop
 stamp-children-requires c κs =
     let here = c .before .before in
-    (c .before .before .before .before .before .before .before .before .before .loop-test .taken, rw (at here .before .types .ensures .is) (at here .before .before .before .pre .0 .few), at here .loop .inv .size)
+    (type here, rw (at here .before .types .ensures .is) (at here .before .before .before .pre .0 .few), at here .loop .inv .size)
 
 returns-4 : tie.Need-returns-4 Inv-loop μ-loop
 returns-4 c = λ e. absurd (true≢false (sym e))
@@ -113,7 +116,8 @@ loop-again c =
     let done = c .before .before .before in
     let here = done .before .before .before in
     let e = at here .before .types .ensures .is in
-    types-more (at here .loop .inv) (read here) e (here .before .before .before .before .before .before .before .loop-test .taken) (read-children (read here) e refl (done .before .before .stretch .ensures))
+    types-more (at here .loop .inv) (read here) e (type here)
+    (read-children (read here) e refl (done .before .before .stretch .ensures))
     (done .stamp-children .ensures (not-false _ (c .before .before .if4 .left)))
     (read-privileges (read here) (c .before .rule-of .ensures) (c .privileges-of .ensures))
 
@@ -132,7 +136,9 @@ word-at-requires c κs = search needs
 returns-7 : tie.Need-returns-7 Inv-loop μ-loop
 returns-7 c =
     let end = c .before .before .before .before in
-    λ q. types-all (end .before .loop .inv) (rw (← end .before .before .types .ensures .is) (end .loop-test .left)) (c .before .before .if5 .left ∙ c .before .before .before .entries .ensures .is) (c .before .if6 .left)
+    λ q. types-all (end .before .loop .inv) (rw (← end .before .before .types .ensures .is) (end .loop-test .left))
+    (c .before .before .if5 .left ∙ c .before .before .before .entries .ensures .is)
+    (c .before .if6 .left)
     (sym (c .word-at .ensures .is) ∙ eqb-true _ _ q)
 
 pub types-pass-spec : {M : Type 1} → statement M
