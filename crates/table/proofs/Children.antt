@@ -41,6 +41,12 @@ module _ (ws : List ℕ) where
   stretch-right (suc (suc (suc (suc zero)))) first count h r = refl
   stretch-right (suc (suc (suc (suc (suc k))))) first count h r = absurd (omega arith)
 
+-- the children of a type whose record is right
+pub children-right : (ws : List ℕ) (t : ℕ) → kindAt ws t ≤ 4 → RightCount (kindAt ws t) (countAt ws t)
+    → childrenAt ws t ≡ take (countAt ws t) (drop (8 + 3 * types ws + firstAt ws t) ws)
+unfolding childrenAt ruleAt
+children-right ws t = stretch-right ws (kindAt ws t) (firstAt ws t) (countAt ws t)
+
 pub count-right : (kind first count : ℕ) → kind ≤ 4 → RightCount kind count → countIn (ruleOf kind first count) ≡ count
 unfolding ruleOf
 count-right zero first count h r = sym (r .empty refl)
@@ -64,8 +70,7 @@ module _ {ws : List ℕ} (g : Tiled ws) where
         omega (arith, first-running, sum-part (countAt ws) t (types ws) l)
 
     children-read : childrenAt ws t ≡ take (countAt ws t) (drop (8 + 3 * types ws + firstAt ws t) ws)
-    unfolding childrenAt ruleAt
-    children-read = stretch-right ws (kindAt ws t) (firstAt ws t) (countAt ws t) (g .kinds t l) (g .counts t l)
+    children-read = children-right ws t (g .kinds t l) (g .counts t l)
 
     -- type t has as many children as its record says
     pub count-read : countOf ws t ≡ countAt ws t

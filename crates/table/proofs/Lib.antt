@@ -7,6 +7,7 @@ pub mod Privileges
 pub mod SeenSoFar
 pub mod Checks
 pub mod Children
+pub mod Stamps
 pub mod Facts
 pub mod Test
 pub mod Answers

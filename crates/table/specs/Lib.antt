@@ -6,4 +6,5 @@ pub mod Words
 pub mod Rule
 pub mod Privilege
 pub mod Check
+pub mod Accept
 pub mod Order

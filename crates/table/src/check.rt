@@ -64,7 +64,7 @@ fn places_in(check: Check, e: usize) -> usize
     }
 }
 
-fn is_headed(words: &[u16]) -> bool
+pub fn is_headed(words: &[u16]) -> bool
     ensures { λ r. ⌜ Tells (Headed (now (words .entry))) r ⌝ }
 {
     if words.len() < 8 {
@@ -73,7 +73,7 @@ fn is_headed(words: &[u16]) -> bool
     word_at(words, 0) == 1
 }
 
-fn is_laid(words: &[u16]) -> bool
+pub fn is_laid(words: &[u16]) -> bool
     ensures { λ r. ⌜ Tells (Laid (now (words .entry))) r ⌝ }
 {
     let size = word_at(words, 1);
@@ -103,7 +103,7 @@ fn is_laid(words: &[u16]) -> bool
     words.len() == size
 }
 
-fn right_count(kind: usize, count: usize) -> bool
+pub fn right_count(kind: usize, count: usize) -> bool
     ensures { λ r. ⌜ Tells (RightCount kind count) r ⌝ }
 {
     if kind < 2 {

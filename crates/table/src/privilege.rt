@@ -12,7 +12,7 @@ use super::rule::rule_at;
 use super::words::lesser;
 use super::words::types;
 
-fn privileges_of(rule: Rule) -> usize
+pub(crate) fn privileges_of(rule: Rule) -> usize
     requires { ⌜ countIn rule < 65536 ⌝ }
     ensures { λ r. ⌜ Within 4294967296 (privilegesOf rule) r ⌝ }
 {

@@ -14,7 +14,7 @@ pub enum Rule {
     Star { first: usize, count: usize },
 }
 
-fn rule_of(kind: usize, first: usize, count: usize) -> Rule
+pub(crate) fn rule_of(kind: usize, first: usize, count: usize) -> Rule
     ensures { λ r. ⌜ r ≡ ruleOf kind first count ⌝ }
 {
     match kind {

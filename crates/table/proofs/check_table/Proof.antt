@@ -17,6 +17,17 @@ Inv-loop words seen number₀ number = (1 ≤ number) × (number ≤ 10) × ((c 
 abbrev μ-loop : tie.MeasureT-loop
 μ-loop words seen number₀ number = 10 - number
 
+is-accepted-requires : tie.Need-is-accepted-requires Inv-loop μ-loop
+is-accepted-requires c κs = search needs
+
+word-at-requires : tie.Need-word-at-requires Inv-loop μ-loop
+word-at-requires c κs = search needs
+
+returns : tie.Need-returns Inv-loop μ-loop
+returns c =
+    let all = c .before .before .is-accepted .ensures (c .before .if1 .taken) in
+    accepted refl (c .word-at .ensures .is ∙ all .passes Total 0 (omega arith) .stated) all
+
 children-seen-requires : tie.Need-children-seen-requires Inv-loop μ-loop
 children-seen-requires c κs = search needs
 
@@ -34,8 +45,8 @@ lowest-failing-requires c κs =
 enum-known-found : tie.Need-enum-known-found Inv-loop μ-loop
 enum-known-found c = search needs
 
-returns : tie.Need-returns Inv-loop μ-loop
-returns c =
+returns-2 : tie.Need-returns-2 Inv-loop μ-loop
+returns-2 c =
     let found = c .before .before .before in
     let known = found .before .before .numbered in
     let at = found .before .before .before .before in
@@ -60,14 +71,14 @@ loop-again c =
     let at = found .before .before .before .before in
     (search needs, search needs, earlier-more _ _ (known .result) (known .ensures) (at .loop .inv .2) (rw (c .enum-told .given .1) at (found .lowest-failing .ensures)))
 
-word-at-requires : tie.Need-word-at-requires Inv-loop μ-loop
-word-at-requires c κs = search needs
+word-at-requires-2 : tie.Need-word-at-requires-2 Inv-loop μ-loop
+word-at-requires-2 c κs = search needs
 
-returns-2 : tie.Need-returns-2 Inv-loop μ-loop
-returns-2 c =
+returns-3 : tie.Need-returns-3 Inv-loop μ-loop
+returns-3 c =
     let at = c .before .before in
-    let all : (d : Check) → Passes (now (at .before .before .before .args .words)) d = λ d. at .loop .inv .2 d (omega (arith, number-range d, c .before .loop-test .left)) in
-    accepted refl (c .word-at .ensures .is ∙ all Total 0 (omega arith) .stated) (record { passes = all })
+    let all : (d : Check) → Passes (now (at .before .before .before .before .before .args .words)) d = λ d. at .loop .inv .2 d (omega (arith, number-range d, c .before .loop-test .left)) in
+    accepted refl (c .word-at2 .ensures .is ∙ all Total 0 (omega arith) .stated) (record { passes = all })
 
 pub check-table-spec : {M : Type 1} → statement M
 check-table-spec =
@@ -75,15 +86,18 @@ check-table-spec =
     (tie.spec
     Inv-loop
     μ-loop
+    is-accepted-requires
+    word-at-requires
+    returns
     children-seen-requires
     loop-holds
     numbered-requires
     lowest-failing-requires
     enum-known-found
-    returns
+    returns-2
     enum-told
     add-number
     loop-less
     loop-again
-    word-at-requires
-    returns-2)
+    word-at-requires-2
+    returns-3)
