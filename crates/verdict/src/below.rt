@@ -6,7 +6,7 @@ ghost use lib.ListN.{length, getD};
 ghost use Rattle.table.specs.Words.{types};
 ghost use Rattle.verdict.specs.Marks.{Policy};
 ghost use Rattle.verdict.specs.Below.{Low, OwnLows, Lows, WorstBelow, Least, Range};
-use super::marks::mark_at;
+use super::marks::none_above;
 use table::Found;
 use table::order::bottom_up;
 use table::privilege::privileges_at;
@@ -16,12 +16,15 @@ use table::words::word_at;
 
 // The lowest forbidden privilege from one number up to another, or 65,535.
 fn forbidden_from(marks: &[u8], from: usize, until: usize) -> u16
-    requires { ⌜ until ≤ 4096 ⌝ }
+    requires { ⌜ (from ≤ until) × (until ≤ length (now marks)) × (until ≤ 4096) ⌝ }
     ensures { λ r. ⌜ Low (Range (now (marks .entry)) from until) r ⌝ }
 {
+    if none_above(&marks[from..until], 1) {
+        return 65535;
+    }
     let mut p = from;
     while p < until {
-        if mark_at(marks, p) == 2 {
+        if marks[p] == 2 {
             return p as u16;
         }
         p += 1;

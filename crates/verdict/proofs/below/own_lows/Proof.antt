@@ -46,18 +46,24 @@ next-is c =
     let at = c .before .before .loop in
     rw (at .inv .1, c .privileges-at .ensures .is) (sym (first-next _ (at .x)))
 
-next-low : (c : tie.After-privileges-at Inv-loop μ-loop) → c .before .before .loop .first + c .privileges-at .result ≤ 4096
-next-low c =
+-- which are no more than there are marks
+next-inside : (c : tie.After-privileges-at Inv-loop μ-loop) → c .before .before .loop .first + c .privileges-at .result ≤ length (now (c .before .before .before .before .before .before .args .marks))
+next-inside c =
     let at = c .before .before in
     let start = at .before .before .before .before in
     let more : at .loop .x + 1 ≤ types (now (start .args .words)) = omega (arith, c .before .loop-test .taken, at .before .types .ensures .is) in
-    rw (next-is c) (omega (arith, first-within (now (start .args .words)) (at .loop .x + 1) more, facts (start .pre .0 .accepted) .privileges-few))
+    rw (next-is c) (omega (arith, first-within (now (start .args .words)) (at .loop .x + 1) more, start .pre .0 .fit .size))
+
+next-low : (c : tie.After-privileges-at Inv-loop μ-loop) → c .before .before .loop .first + c .privileges-at .result ≤ 4096
+next-low c =
+    let start = c .before .before .before .before .before .before in
+    omega (arith, next-inside c, start .pre .0 .fit .size, facts (start .pre .0 .accepted) .privileges-few)
 
 add-next : tie.Need-add-next Inv-loop μ-loop
 add-next c = omega (arith, next-low c)
 
 forbidden-from-requires : tie.Need-forbidden-from-requires Inv-loop μ-loop
-forbidden-from-requires c κs = next-low c
+forbidden-from-requires c κs = (omega arith, next-inside c, next-low c)
 
 mul-low : tie.Need-mul-low Inv-loop μ-loop
 mul-low c = omega arith
