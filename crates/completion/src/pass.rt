@@ -139,8 +139,10 @@ pub fn complete_all(words: &[u16], marks: &[u8], out: &mut [u8])
     requires { ⌜ Policy (now words) (now marks) × (privileges (now words) ≤ length (now out)) ⌝ }
     ensures { λ _. ⌜ Filled (now (words .entry)) (now (marks .entry)) (now (out .entry)) (now (out .exit)) ⌝ }
 {
-    let order = bottom_up(words);
-    let firsts = first_privileges(words);
+    let mut order = [0u8; 256];
+    bottom_up(words, &mut order);
+    let mut firsts = [0u16; 256];
+    first_privileges(words, &mut firsts);
     let mut opened = [0u8; 256];
     let mut k = types(words);
     while 0 < k {

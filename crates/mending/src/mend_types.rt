@@ -116,7 +116,8 @@ fn mend_all(words: &[u16], m: &mut [u8]) -> usize
     requires { ⌜ Policy (now words) (now m) ⌝ }
     ensures { λ r. ⌜ Mends (now (words .entry)) (now (m .entry)) (now (m .exit)) r ⌝ }
 {
-    let low = forbidden_lows(words, m);
+    let mut low = [65535u16; 256];
+    forbidden_lows(words, m, &mut low);
     let e = types(words);
     let mut count = 0;
     let mut first = 0;

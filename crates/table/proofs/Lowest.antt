@@ -2,7 +2,7 @@
 use Prim.Native.Nat.{ℕ, _+_, _≤_, _<_, zero-le}
 use mathlib.Core.Path.{_≡_, refl}
 use mathlib.Core.Logic.{_≢_}
-use mathlib.Core.Bool.{Bool, true, false, not}
+use mathlib.Core.Bool.{Bool, true, false, not, _&&_}
 use native.Mathlib.Numerals.{add-one-le}
 use native.Mathlib.Omega.{arith}
 use borrow.Author.Count.{below-more, below-none}
@@ -65,3 +65,10 @@ tells-ne-as Q a b f g = go (eqb a b) (tells-eq a b)
     go : (r : Bool) → Tells (a ≡ b) r → Tells Q (not r)
     go true e = λ q. g q e
     go false d = f d
+
+-- a flag for all places before i, and one for i
+pub tells-all-more : (Good : ℕ → Type 0) (i : ℕ) (r b : Bool) → Tells ((k : ℕ) → k < i → Good k) r → Tells (Good i) b
+    → Tells ((k : ℕ) → k < i + 1 → Good k) (r && b)
+tells-all-more Good i true true h g = below-more _ _ h g
+tells-all-more Good i true false h g = λ all. g (all i (omega arith))
+tells-all-more Good i false b h g = λ all. h (λ k l. all k (omega arith))

@@ -1,6 +1,7 @@
 // How many privileges a table has, and the number of each. Contracts cite specs/Privilege.
 ghost use mathlib.Core.Path.{_≡_};
 ghost use Prim.Native.Nat.{_≤_, _<_};
+ghost use lib.ListN.{length};
 ghost use Rattle.table.specs.Words.{Within, types};
 ghost use Rattle.table.specs.Rule.{countIn};
 ghost use Rattle.table.specs.Privilege.{privilegesOf, privilegesAt, firstPrivilege, privileges, Firsts, NumberedAs, Positions, insertIn, deleteIn, replaceIn, ReplaceableIn};
@@ -46,12 +47,12 @@ pub fn privileges(words: &[u16]) -> usize
     sum
 }
 
-// The first privilege of each type of a table.
-pub fn first_privileges(words: &[u16]) -> [u16; 256]
-    ensures { λ r. ⌜ (Accepted (now (words .entry)) → Firsts (now (words .entry)) r) ⌝ }
+// Writes the first privilege of each type of a table.
+pub fn first_privileges(words: &[u16], firsts: &mut [u16; 256])
+    requires { ⌜ length (now firsts) ≡ 256 ⌝ }
+    ensures { λ _. ⌜ (Accepted (now (words .entry)) → Firsts (now (words .entry)) (now (firsts .exit))) ⌝ }
 {
     let e = lesser(types(words), 256);
-    let mut firsts = [0u16; 256];
     let mut first = 0;
     let mut x = 0;
     while x < e {
@@ -59,7 +60,6 @@ pub fn first_privileges(words: &[u16]) -> [u16; 256]
         first += privileges_at(words, x);
         x += 1;
     }
-    firsts
 }
 
 // How the edits at a type are numbered.

@@ -1,13 +1,13 @@
 -- The lowest forbidden privilege of a type's own, and below it. Assumes nothing.
-use Prim.Native.Nat.{ℕ, zero, suc, _+_, _≤_, _<_}
+use Prim.Native.Nat.{ℕ, zero, suc, _+_, _-_, _≤_, _<_}
 use mathlib.Core.Path.{_≡_, refl, sym, ap, _∙_}
 use mathlib.Core.Logic.{_≢_, _⊎_, inl, inr}
 use mathlib.Core.List.{List}
 use native.Mathlib.Nat.{eq-or-lt-of-le}
 use native.Mathlib.Decide.{ℕ-discrete}
 use native.Mathlib.Omega.{arith}
-use lib.ListN.{length, getD, set, length-set}
-use lib.Seq.{getD-set-same, getD-set-other}
+use lib.ListN.{length, getD, set, take, drop, length-set, length-drop}
+use lib.Seq.{getD-set-same, getD-set-other, getD-take, getD-drop, length-take-le}
 use Rattle.table.specs.Words.{types}
 use Rattle.table.specs.Rule.{childrenAt, childAt, Child}
 use Rattle.table.specs.Privilege.{firstPrivilege, privilegesAt, privileges, Belongs}
@@ -35,6 +35,20 @@ low-hit {P} {r} t p n = record { top = t; here = λ l. p; least = λ q h. go q h
 
 pub low-as : {P Q : ℕ → Type 0} {r : ℕ} → ((q : ℕ) → P q → Q q) → ((q : ℕ) → Q q → P q) → Low P r → Low Q r
 low-as f g l = record { top = l .top; here = λ h. f _ (l .here h); least = λ q h. l .least q (g q h) }
+
+-- a stretch in which no mark is above 1 has none that is forbidden
+pub range-none : {marks : List ℕ} {from until : ℕ} → until ≤ length marks
+    → ((i : ℕ) → i < length (take (until - from) (drop from marks)) → getD (take (until - from) (drop from marks)) i 0 ≤ 1) → (q : ℕ) → ¬ Range marks from until q
+range-none {marks} {from} {until} l h q r = absurd (omega (arith, h (q - from) inside, r .forbidden, read))
+  where
+    inside : q - from < length (take (until - from) (drop from marks))
+    inside = omega (arith, length-take-le (until - from) (drop from marks) (omega (arith, length-drop from marks)), r .low, r .high)
+
+    here : from + (q - from) ≡ q
+    here = omega (arith, r .low)
+
+    read : getD (take (until - from) (drop from marks)) (q - from) 0 ≡ getD marks q 0
+    read = getD-take (until - from) (drop from marks) (q - from) 0 (omega (arith, r .low, r .high)) ∙ getD-drop from marks (q - from) 0 ∙ rw here
 
 -- a type's own privileges run from its first to that of the next
 pub low-own : {ws marks : List ℕ} {x r : ℕ} → x < types ws → Low (Range marks (firstPrivilege ws x) (firstPrivilege ws x + privilegesAt ws x)) r

@@ -1,11 +1,12 @@
 // What is forbidden below each type, in one pass along the order in which every type comes after its children.
 // Contracts cite specs/Below.
+ghost use mathlib.Core.Path.{_≡_};
 ghost use Prim.Native.Nat.{ℕ, _≤_, _<_};
 ghost use lib.ListN.{length, getD};
 ghost use Rattle.table.specs.Words.{types};
 ghost use Rattle.verdict.specs.Marks.{Policy};
 ghost use Rattle.verdict.specs.Below.{Low, OwnLows, Lows, WorstBelow, Least, Range};
-use super::marks::mark_at;
+use super::marks::none_above;
 use table::Found;
 use table::order::bottom_up;
 use table::privilege::privileges_at;
@@ -15,12 +16,15 @@ use table::words::word_at;
 
 // The lowest forbidden privilege from one number up to another, or 65,535.
 fn forbidden_from(marks: &[u8], from: usize, until: usize) -> u16
-    requires { ⌜ until ≤ 4096 ⌝ }
+    requires { ⌜ (from ≤ until) × (until ≤ length (now marks)) × (until ≤ 4096) ⌝ }
     ensures { λ r. ⌜ Low (Range (now (marks .entry)) from until) r ⌝ }
 {
+    if none_above(&marks[from..until], 1) {
+        return 65535;
+    }
     let mut p = from;
     while p < until {
-        if mark_at(marks, p) == 2 {
+        if marks[p] == 2 {
             return p as u16;
         }
         p += 1;
@@ -28,13 +32,12 @@ fn forbidden_from(marks: &[u8], from: usize, until: usize) -> u16
     65535
 }
 
-// For each type the lowest forbidden privilege of its own, or 65,535.
-fn own_lows(words: &[u16], marks: &[u8]) -> [u16; 256]
-    requires { ⌜ Policy (now words) (now marks) ⌝ }
-    ensures { λ r. ⌜ OwnLows (now (words .entry)) (now (marks .entry)) r ⌝ }
+// Writes for each type the lowest forbidden privilege of its own, or 65,535.
+fn own_lows(words: &[u16], marks: &[u8], low: &mut [u16; 256])
+    requires { ⌜ Policy (now words) (now marks) × (length (now low) ≡ 256) ⌝ }
+    ensures { λ _. ⌜ OwnLows (now (words .entry)) (now (marks .entry)) (now (low .exit)) ⌝ }
 {
     let e = types(words);
-    let mut low = [65535u16; 256];
     let mut first = 0;
     let mut x = 0;
     while x < e {
@@ -43,7 +46,6 @@ fn own_lows(words: &[u16], marks: &[u8]) -> [u16; 256]
         first = next;
         x += 1;
     }
-    low
 }
 
 // The least of a number and those of the children.
@@ -63,22 +65,22 @@ fn least_of(kids: &[u16], low: &[u16; 256], own: u16) -> u16
     least
 }
 
-// For each type the lowest forbidden privilege below it, or 65,535.
-pub fn forbidden_lows(words: &[u16], marks: &[u8]) -> [u16; 256]
-    requires { ⌜ Policy (now words) (now marks) ⌝ }
-    ensures { λ r. ⌜ Lows (now (words .entry)) (now (marks .entry)) r ⌝ }
+// Writes for each type the lowest forbidden privilege below it, or 65,535.
+pub fn forbidden_lows(words: &[u16], marks: &[u8], low: &mut [u16; 256])
+    requires { ⌜ Policy (now words) (now marks) × (length (now low) ≡ 256) ⌝ }
+    ensures { λ _. ⌜ Lows (now (words .entry)) (now (marks .entry)) (now (low .exit)) ⌝ }
 {
-    let order = bottom_up(words);
+    let mut order = [0u8; 256];
+    bottom_up(words, &mut order);
     let e = types(words);
-    let mut low = own_lows(words, marks);
+    own_lows(words, marks, low);
     let mut k = 0;
     while k < e {
         let x = order[k] as usize;
         let own = low[x];
-        low[x] = least_of(children(words, x), &low, own);
+        low[x] = least_of(children(words, x), low, own);
         k += 1;
     }
-    low
 }
 
 // What is forbidden below type y of a policy: the lowest privilege, or nothing.

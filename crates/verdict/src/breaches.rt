@@ -227,7 +227,8 @@ pub fn first_breach(words: &[u16], marks: &[u8]) -> Breach
     requires { ⌜ Policy (now words) (now marks) ⌝ }
     ensures { λ r. ⌜ Verdict (now (words .entry)) (now (marks .entry)) r ⌝ }
 {
-    let low = forbidden_lows(words, marks);
+    let mut low = [65535u16; 256];
+    forbidden_lows(words, marks, &mut low);
     let e = types(words);
     let mut first = 0;
     let mut x = 0;

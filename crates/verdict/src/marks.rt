@@ -1,8 +1,8 @@
 // Checking a run of marks, and a table with its marks. Contracts cite specs/Marks.
 ghost use mathlib.Core.Path.{_≡_};
-ghost use Prim.Native.Nat.{_<_};
+ghost use Prim.Native.Nat.{ℕ, _≤_, _<_};
 ghost use lib.ListN.{length, getD};
-ghost use Rattle.table.specs.Lowest.{Lowest};
+ghost use Rattle.table.specs.Lowest.{Lowest, Tells};
 ghost use Rattle.verdict.specs.Marks.{Legal, MarksAnswer, PolicyAnswer};
 use table::Checked;
 use table::Found;
@@ -15,10 +15,26 @@ pub fn mark_at(marks: &[u8], p: usize) -> u8
     if p < marks.len() { marks[p] } else { 0 }
 }
 
+// Is no mark above the given one? All marks are looked at, many at a time: the loop is not left early.
+pub fn none_above(marks: &[u8], most: u8) -> bool
+    ensures { λ r. ⌜ Tells ((p : ℕ) → p < length (now (marks .entry)) → getD (now (marks .entry)) p 0 ≤ most) r ⌝ }
+{
+    let mut none = true;
+    let mut p = 0;
+    while p < marks.len() {
+        none = none & (marks[p] <= most);
+        p += 1;
+    }
+    none
+}
+
 // The lowest privilege whose mark is above 2.
 fn lowest_above(marks: &[u8]) -> Found
     ensures { λ r. ⌜ Lowest (Legal (now (marks .entry))) (length (now (marks .entry))) r ⌝ }
 {
+    if none_above(marks, 2) {
+        return Found::Nothing;
+    }
     let mut p = 0;
     while p < marks.len() {
         if 2 < marks[p] {

@@ -6,6 +6,9 @@ use Rattle.verdict.proofs.Policies.{policy-refused, policy-fits, marks-refused,
 use Rattle.verdict.specs.Answers.{done}
 use Rattle.verdict.specs.Marks.{Fit, Policy}
 use Rattle.table.specs.Privilege.{privileges}
+use Rattle.table.proofs.Facts.{facts}
+use lib.ListN.{length}
+use Prim.Native.Nat.{_≤_}
 use denote.Ref.{now}
 use native.Mathlib.Omega.{arith}
 use mathlib.Core.Path.{_≡_, refl, ap, _∙_}
@@ -19,6 +22,15 @@ policy c = policy-fits (c .if1 .left) (c .before .before .check-policy .ensures)
 
 fit : (c : tie.Else2) → Fit (privileges (now (c .before .before .before .before .before .before .before .before .before .args .words))) (now (c .before .before .before .before .before .before .before .before .before .args .proposed))
 fit c = rw (policy (c .before .before .before) .1) at (marks-fit (omega arith) (c .if2 .left) (c .before .before .check-marks .ensures))
+
+-- there are so many of both
+sizes : (c : tie.Else2)
+    → let checked = c .before .before .before in let start = checked .before .before .before .before .before .before in
+    let v = checked .before .before .check-policy .result .place in
+    (v ≤ length (now (start .args .marks))) × (v ≤ length (now (start .args .proposed)))
+sizes c =
+    let p = policy (c .before .before .before) in
+    (omega (arith, p .1, p .0 .fit .size), omega (arith, p .1, fit c .size))
 
 all-kept : (c : tie.After-enum-told) → AllKept (now (c .before .before .before .before .before .before .before .before .before .before .before .before .args .words)) (now (c .before .before .before .before .before .before .before .before .before .before .before .before .args .marks)) (now (c .before .before .before .before .before .before .before .before .before .before .before .before .args .proposed))
 all-kept c = rw (policy (c .before .before .before .before .before .before) .1) at (rw (c .enum-told .given .1) at (c .before .before .lowest-change .ensures))
@@ -47,7 +59,7 @@ returns-2 c =
     unfit (p .0) (rw (p .1) at (marks-refused (c .before .if2 .taken) (c .before .before .before .check-marks .ensures))) (c .refused2 .ensures)
 
 lowest-change-requires : tie.Need-lowest-change-requires
-lowest-change-requires c κs = search needs
+lowest-change-requires c κs = sizes c
 
 enum-known-found : tie.Need-enum-known-found
 enum-known-found c = search needs
@@ -71,7 +83,10 @@ enum-told-2 : tie.Need-enum-told-2
 enum-told-2 c = search needs
 
 count-changes-requires : tie.Need-count-changes-requires
-count-changes-requires c κs = search needs
+count-changes-requires c κs =
+    let at = c .before .before .before .before .before .before in
+    let p = policy (at .before .before .before) in
+    (sizes at .0, sizes at .1, omega (arith, p .1, facts (p .0 .accepted) .privileges-few))
 
 done-with-requires : tie.Need-done-with-requires
 done-with-requires c κs = search needs

@@ -1,6 +1,7 @@
 -- The pass has done the types from place k of the order on, and so the parents of the type that it comes to. Assumes nothing.
 use Prim.Native.Nat.{ℕ, _+_, _-_, _≤_, _<_}
-use mathlib.Core.Path.{_≡_}
+use mathlib.Core.Path.{_≡_, refl}
+use mathlib.Core.List.{List}
 use native.Mathlib.Omega.{arith}
 use borrow.Author.Needs.{needs}
 use denote.Ref.{now}
@@ -21,50 +22,57 @@ abbrev μ-loop : tie.MeasureT-loop
 μ-loop words marks out₀ order firsts opened₀ k₀ out opened k = k
 
 -- the order in which each type comes after its children
-order-up : (c : tie.After-bottom-up Inv-loop μ-loop) → BottomUp (now (c .before .before .before .before .args .words)) (c .bottom-up .result)
-order-up c = c .bottom-up .ensures (c .before .before .before .before .pre .0 .accepted)
+module _ (c : tie.After-bottom-up Inv-loop μ-loop) where
+  abbrev start : tie.Start Inv-loop μ-loop
+  start = c .before .before .before .before .before
+
+  abbrev order : List ℕ
+  order = c .bottom-up .last .1 .0
+
+  order-up : BottomUp (now (start .args .words)) order
+  order-up = c .bottom-up .ensures (start .pre .0 .accepted)
 
 -- the loop comes to the place before k, which holds a type
 module _ (c : tie.In-loop Inv-loop μ-loop) where
-  abbrev start : tie.Start Inv-loop μ-loop
-  start = c .before .before .before .before .before .before .before .before
+  abbrev ordered : tie.After-bottom-up Inv-loop μ-loop
+  ordered = c .before .before .before .before .before
 
-  abbrev order : tie.After-bottom-up Inv-loop μ-loop
-  order = c .before .before .before .before
+  abbrev begin : tie.Start Inv-loop μ-loop
+  begin = start ordered
 
-  place : c .before .loop .k - 1 < types (now (start .args .words))
+  place : c .before .loop .k - 1 < types (now (begin .args .words))
   place = omega (arith, c .loop-test .taken, c .before .loop .inv .0)
 
-  few : types (now (start .args .words)) ≤ 256
-  few = facts (start .pre .0 .accepted) .few
+  few : types (now (begin .args .words)) ≤ 256
+  few = facts (begin .pre .0 .accepted) .few
 
   abbrev x : ℕ
-  x = getD (order .bottom-up .result) (c .before .loop .k - 1) 0
+  x = getD (order ordered) (c .before .loop .k - 1) 0
 
-  type : x < types (now (start .args .words))
-  type = order-up order .inside (c .before .loop .k - 1) place
+  type : x < types (now (begin .args .words))
+  type = order-up ordered .inside (c .before .loop .k - 1) place
 
-  first-is : getD (c .before .before .before .first-privileges .result) x 0 ≡ firstPrivilege (now (start .args .words)) x
-  first-is = c .before .before .before .first-privileges .ensures (start .pre .0 .accepted) x type
+  first-is : getD (c .before .before .before .first-privileges .last .1 .0) x 0 ≡ firstPrivilege (now (begin .args .words)) x
+  first-is = c .before .before .before .first-privileges .ensures (begin .pre .0 .accepted) x type
 
-  first-low : firstPrivilege (now (start .args .words)) x ≤ 4096
-  first-low = omega (arith, first-within (now (start .args .words)) x (omega (arith, type)), facts (start .pre .0 .accepted) .privileges-few)
+  first-low : firstPrivilege (now (begin .args .words)) x ≤ 4096
+  first-low = omega (arith, first-within (now (begin .args .words)) x (omega (arith, type)), facts (begin .pre .0 .accepted) .privileges-few)
 
   -- the types after that place are done
-  stands : Descended (now (start .args .words)) (now (start .args .marks)) (order .bottom-up .result) (c .before .loop .k - 1 + 1) (c .before .loop .opened) (now (start .args .out)) (c .before .loop .out)
+  stands : Descended (now (begin .args .words)) (now (begin .args .marks)) (order ordered) (c .before .loop .k - 1 + 1) (c .before .loop .opened) (now (begin .args .out)) (c .before .loop .out)
   stands = let e : c .before .loop .k ≡ c .before .loop .k - 1 + 1 = omega (arith, c .loop-test .taken) in rw e at (c .before .loop .inv .1)
 
 bottom-up-requires : tie.Need-bottom-up-requires Inv-loop μ-loop
-bottom-up-requires c κs = search needs
+bottom-up-requires c κs = refl
 
 first-privileges-requires : tie.Need-first-privileges-requires Inv-loop μ-loop
-first-privileges-requires c κs = search needs
+first-privileges-requires c κs = refl
 
 types-requires : tie.Need-types-requires Inv-loop μ-loop
 types-requires c κs = search needs
 
 loop-holds : tie.Need-loop-holds Inv-loop μ-loop
-loop-holds c = (search needs, rw (c .types .ensures .is) (descent-start (c .before .before .before .before .before .before .pre .0 .accepted)))
+loop-holds c = (search needs, rw (c .types .ensures .is) (descent-start (start (c .before .before .before) .pre .0 .accepted)))
 
 sub-k : tie.Need-sub-k Inv-loop μ-loop
 sub-k c = search needs
@@ -90,14 +98,14 @@ children-requires c κs = search needs
 complete-type-requires : tie.Need-complete-type-requires Inv-loop μ-loop
 complete-type-requires c κs =
     let loop = c .before .before .before in
-    let pre = start loop .pre in
+    let pre = begin loop .pre in
     record {
       policy = pre .0;
       type = type loop;
       first-is = first-is loop;
       kids-are = c .before .before .children .ensures;
       size = loop .before .loop .inv .1 .flags;
-      told = descent-told (pre .0 .accepted) (order-up (order loop)) (stands loop) (place loop);
+      told = descent-told (pre .0 .accepted) (order-up (ordered loop)) (stands loop) (place loop);
       room = omega (arith, pre .1, loop .before .loop .inv .1 .size);
     }
 
@@ -108,7 +116,7 @@ loop-again : tie.Need-loop-again Inv-loop μ-loop
 loop-again c =
     let done = c .before .before in
     let loop = done .before .before .before .before in
-    (search needs, descent-more (start loop .pre .0 .accepted) (order-up (order loop)) (stands loop) (place loop) (done .complete-type .ensures))
+    (search needs, descent-more (begin loop .pre .0 .accepted) (order-up (ordered loop)) (stands loop) (place loop) (done .complete-type .ensures))
 
 same-length : tie.Need-same-length Inv-loop μ-loop
 same-length c = c .before .loop .inv .1 .size
@@ -117,7 +125,7 @@ returns : tie.Need-returns Inv-loop μ-loop
 returns c =
     let at = c .before in
     let end : at .loop .k ≡ 0 = omega (arith, c .loop-test .left) in
-    descent-all (order-up (at .before .before .before)) (rw end at (at .loop .inv .1))
+    descent-all (order-up (at .before .before .before .before)) (rw end at (at .loop .inv .1))
 
 pub complete-all-spec : {M : Type 1} → statement M
 complete-all-spec =

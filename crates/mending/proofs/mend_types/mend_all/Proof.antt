@@ -7,7 +7,7 @@ use Rattle.table.proofs.Facts.{facts}
 use Rattle.table.proofs.Privileges.{first-start, first-next, first-within}
 use Rattle.table.specs.Privilege.{firstPrivilege}
 use Rattle.table.specs.Words.{types}
-use mathlib.Core.Path.{_≡_, sym, ap, _∙_}
+use mathlib.Core.Path.{_≡_, refl, sym, ap, _∙_}
 use denote.Ref.{now}
 use native.Mathlib.Omega.{arith}
 use Prim.Native.Nat.{ℕ, _-_, _+_, _≤_, _<_}
@@ -21,22 +21,24 @@ abbrev μ-loop : tie.MeasureT-loop
 μ-loop words m₀ low e count₀ first₀ x₀ m count first x = e - x
 
 -- the loop stands at a type, and goes on from its mend
-is-type : (c : tie.In-loop Inv-loop μ-loop) → c .before .loop .x < types (now (c .before .before .before .before .before .before .before .args .words))
+is-type : (c : tie.In-loop Inv-loop μ-loop) → c .before .loop .x < types (now (c .before .before .before .before .before .before .before .before .args .words))
 is-type c = omega (arith, c .loop-test .taken, c .before .before .types .ensures .is)
 
-onward : (c : tie.After-mend-type Inv-loop μ-loop) → Mending (now (c .before .before .before .before .before .before .before .before .before .before .args .words)) (c .before .before .before .before .before .before .forbidden-lows .result) (c .before .before .before .before .loop .x + 1) (now (c .before .before .before .before .before .before .before .before .before .before .args .m)) (c .mend-type .last .1 .0) (c .before .before .before .before .loop .count + c .mend-type .result)
+onward : (c : tie.After-mend-type Inv-loop μ-loop)
+    → let at = c .before .before .before .before in let begin = at .before .before .before .before .before .before .before in
+    Mending (now (begin .args .words)) (at .before .before .forbidden-lows .last .1 .1 .0) (at .loop .x + 1) (now (begin .args .m)) (c .mend-type .last .1 .0) (at .loop .count + c .mend-type .result)
 onward c = mending-on (c .before .before .before .before .loop .inv .2) (c .mend-type .ensures)
 
 forbidden-lows-requires : tie.Need-forbidden-lows-requires Inv-loop μ-loop
-forbidden-lows-requires c κs = c .before .before .before .pre
+forbidden-lows-requires c κs = (c .before .before .before .before .pre, refl)
 
 types-requires : tie.Need-types-requires Inv-loop μ-loop
 types-requires c κs = search needs
 
 loop-holds : tie.Need-loop-holds Inv-loop μ-loop
 loop-holds c =
-    let pol = c .before .before .before .before .before .pre in
-    (search needs, sym (first-start _), record { follows = start; policy = pol; spoilt = lows-spoilt pol (c .before .forbidden-lows .result) (c .before .forbidden-lows .ensures); clean = clean-start _ _ })
+    let pol = c .before .before .before .before .before .before .pre in
+    (search needs, sym (first-start _), record { follows = start; policy = pol; spoilt = lows-spoilt pol (c .before .forbidden-lows .last .1 .1 .0) (c .before .forbidden-lows .ensures); clean = clean-start _ _ })
 
 mend-type-requires : tie.Need-mend-type-requires Inv-loop μ-loop
 mend-type-requires c κs =
@@ -53,7 +55,7 @@ privileges-at-requires c κs = search needs
 add-first : tie.Need-add-first Inv-loop μ-loop
 add-first c =
     let loop = c .before .before .before .before .before .before in
-    let begin = loop .before .before .before .before .before .before .before in
+    let begin = loop .before .before .before .before .before .before .before .before in
     omega (arith, c .privileges-at .ensures .small, first-within (now (begin .args .words)) (loop .before .loop .x) (omega (arith, is-type loop)), facts (begin .pre .accepted) .privileges-few)
 
 add-x : tie.Need-add-x Inv-loop μ-loop
@@ -76,12 +78,12 @@ loop-again c =
     )
 
 same-length : tie.Need-same-length Inv-loop μ-loop
-same-length c = omega (arith, c .before .loop .inv .2 .policy .fit .size, c .before .before .before .before .before .before .before .pre .fit .size)
+same-length c = omega (arith, c .before .loop .inv .2 .policy .fit .size, c .before .before .before .before .before .before .before .before .pre .fit .size)
 
 returns : tie.Need-returns Inv-loop μ-loop
 returns c =
     let at = c .before in
-    let begin = at .before .before .before .before .before .before in
+    let begin = at .before .before .before .before .before .before .before in
     let end : at .loop .x ≡ types (now (begin .args .words)) = omega (arith, at .loop .inv .0, c .loop-test .left, at .before .types .ensures .is) in
     mending-done (rw end at (at .loop .inv .2))
 

@@ -13,10 +13,10 @@ use Rattle.table.proofs.order.bottom_up.Statement.{statement}
 use Rattle.table.proofs.order.bottom_up.Tie as tie
 
 abbrev Inv-loop : tie.InvT-loop
-Inv-loop words e order₀ k₀ order k = (k ≤ e) × (length order ≡ 256) × ((j : ℕ) → j < k → getD order j 0 ≡ e - 1 - j)
+Inv-loop words order₀ e k₀ order k = (k ≤ e) × (length order ≡ 256) × ((j : ℕ) → j < k → getD order j 0 ≡ e - 1 - j)
 
 abbrev μ-loop : tie.MeasureT-loop
-μ-loop words e order₀ k₀ order k = e - k
+μ-loop words order₀ e k₀ order k = e - k
 
 types-requires : tie.Need-types-requires Inv-loop μ-loop
 types-requires c κs = search needs
@@ -25,7 +25,7 @@ lesser-requires : tie.Need-lesser-requires Inv-loop μ-loop
 lesser-requires c κs = search needs
 
 loop-holds : tie.Need-loop-holds Inv-loop μ-loop
-loop-holds c = (search needs, refl, below-none _)
+loop-holds c = (search needs, c .before .before .before .pre, below-none _)
 
 sub-order : tie.Need-sub-order Inv-loop μ-loop
 sub-order c = search needs
@@ -36,8 +36,8 @@ sub-order-2 c = search needs
 cast-order : tie.Need-cast-order Inv-loop μ-loop
 cast-order c = search needs
 
-array-write-order : tie.Need-array-write-order Inv-loop μ-loop
-array-write-order c = search needs
+element-write-order : tie.Need-element-write-order Inv-loop μ-loop
+element-write-order c = search needs
 
 add-k : tie.Need-add-k Inv-loop μ-loop
 add-k c = search needs
@@ -72,7 +72,7 @@ bottom-up-spec =
     sub-order
     sub-order-2
     cast-order
-    array-write-order
+    element-write-order
     add-k
     loop-less
     loop-again

@@ -7,16 +7,16 @@ use Rattle.table.specs.Privilege.{firstPrivilege}
 use lib.ListN.{length, getD, length-set}
 use denote.Ref.{now}
 use native.Mathlib.Omega.{arith}
-use mathlib.Core.Path.{_≡_, refl, sym, ap, _∙_}
+use mathlib.Core.Path.{_≡_, sym, ap, _∙_}
 use Prim.Native.Nat.{ℕ, _+_, _-_, _*_, _%_, _≤_, _<_}
 use Rattle.table.proofs.privilege.first_privileges.Statement.{statement}
 use Rattle.table.proofs.privilege.first_privileges.Tie as tie
 
 abbrev Inv-loop : tie.InvT-loop
-Inv-loop words e firsts₀ first₀ x₀ firsts first x = (x ≤ e) × (e ≤ 256) × (first ≡ firstPrivilege words x) × (first ≤ 4294967296 * x) × (length firsts ≡ 256) × ((j : ℕ) → j < x → getD firsts j 0 ≡ firstPrivilege words j % 65536)
+Inv-loop words firsts₀ e first₀ x₀ firsts first x = (x ≤ e) × (e ≤ 256) × (first ≡ firstPrivilege words x) × (first ≤ 4294967296 * x) × (length firsts ≡ 256) × ((j : ℕ) → j < x → getD firsts j 0 ≡ firstPrivilege words j % 65536)
 
 abbrev μ-loop : tie.MeasureT-loop
-μ-loop words e firsts₀ first₀ x₀ firsts first x = e - x
+μ-loop words firsts₀ e first₀ x₀ firsts first x = e - x
 
 types-requires : tie.Need-types-requires Inv-loop μ-loop
 types-requires c κs = search needs
@@ -25,7 +25,7 @@ lesser-requires : tie.Need-lesser-requires Inv-loop μ-loop
 lesser-requires c κs = search needs
 
 loop-holds : tie.Need-loop-holds Inv-loop μ-loop
-loop-holds c = (search needs, omega arith, sym (first-start _), search needs, refl, λ j l. absurd (omega arith))
+loop-holds c = (search needs, omega arith, sym (first-start _), search needs, c .before .before .before .pre, λ j l. absurd (omega arith))
 
 cast-firsts : tie.Need-cast-firsts Inv-loop μ-loop
 cast-firsts c = search needs
@@ -33,8 +33,8 @@ cast-firsts c = search needs
 mul-firsts : tie.Need-mul-firsts Inv-loop μ-loop
 mul-firsts c = omega arith
 
-array-write-firsts : tie.Need-array-write-firsts Inv-loop μ-loop
-array-write-firsts c = omega arith
+element-write-firsts : tie.Need-element-write-firsts Inv-loop μ-loop
+element-write-firsts c = omega arith
 
 privileges-at-requires : tie.Need-privileges-at-requires Inv-loop μ-loop
 privileges-at-requires c κs = search needs
@@ -81,7 +81,7 @@ first-privileges-spec =
     loop-holds
     cast-firsts
     mul-firsts
-    array-write-firsts
+    element-write-firsts
     privileges-at-requires
     add-first
     add-x

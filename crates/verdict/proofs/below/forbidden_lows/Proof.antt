@@ -6,41 +6,58 @@ use Rattle.table.specs.Order.{BottomUp}
 use Rattle.table.specs.Words.{types}
 use lib.ListN.{getD}
 use denote.Ref.{now}
+use mathlib.Core.Path.{refl}
+use mathlib.Core.List.{List}
 use native.Mathlib.Omega.{arith}
-use Prim.Native.Nat.{_-_, _≤_, _<_}
+use Prim.Native.Nat.{ℕ, _-_, _≤_, _<_}
 use Rattle.verdict.proofs.below.forbidden_lows.Statement.{statement}
 use Rattle.verdict.proofs.below.forbidden_lows.Tie as tie
 
 abbrev Inv-loop : tie.InvT-loop
-Inv-loop words marks order e low₀ k₀ low k = Climbed words marks order k low
+Inv-loop words marks low₀ order e k₀ low k = Climbed words marks order k low
 
 abbrev μ-loop : tie.MeasureT-loop
-μ-loop words marks order e low₀ k₀ low k = e - k
+μ-loop words marks low₀ order e k₀ low k = e - k
 
-order-up : (c : tie.After-bottom-up Inv-loop μ-loop) → BottomUp (now (c .before .before .before .args .words)) (c .bottom-up .result)
-order-up c = c .bottom-up .ensures (c .before .before .before .pre .accepted)
+-- the order in which each type comes after its children
+module _ (c : tie.After-bottom-up Inv-loop μ-loop) where
+  abbrev start : tie.Start Inv-loop μ-loop
+  start = c .before .before .before .before
+
+  abbrev order : List ℕ
+  order = c .bottom-up .last .1 .0
+
+  order-up : BottomUp (now (start .args .words)) order
+  order-up = c .bottom-up .ensures (start .pre .0 .accepted)
 
 -- the loop stands at a place of the order, which holds a type
-is-type : (c : tie.In-loop Inv-loop μ-loop) → c .before .loop .k < types (now (c .before .before .before .before .before .before .before .args .words))
-is-type c = omega (arith, c .loop-test .taken, c .before .before .before .types .ensures .is)
+module _ (c : tie.In-loop Inv-loop μ-loop) where
+  abbrev ordered : tie.After-bottom-up Inv-loop μ-loop
+  ordered = c .before .before .before .before .before
 
-few : (c : tie.In-loop Inv-loop μ-loop) → types (now (c .before .before .before .before .before .before .before .args .words)) ≤ 256
-few c = facts (c .before .before .before .before .before .before .before .pre .accepted) .few
+  abbrev begin : tie.Start Inv-loop μ-loop
+  begin = start ordered
 
-index : (c : tie.In-loop Inv-loop μ-loop) → getD (c .before .before .before .before .bottom-up .result) (c .before .loop .k) 0 < 256
-index c = omega (arith, few c, order-up (c .before .before .before .before) .inside _ (is-type c))
+  is-type : c .before .loop .k < types (now (begin .args .words))
+  is-type = omega (arith, c .loop-test .taken, c .before .before .before .before .types .ensures .is)
+
+  few : types (now (begin .args .words)) ≤ 256
+  few = facts (begin .pre .0 .accepted) .few
+
+  index : getD (order ordered) (c .before .loop .k) 0 < 256
+  index = omega (arith, few, order-up ordered .inside _ is-type)
 
 bottom-up-requires : tie.Need-bottom-up-requires Inv-loop μ-loop
-bottom-up-requires c κs = search needs
+bottom-up-requires c κs = refl
 
 types-requires : tie.Need-types-requires Inv-loop μ-loop
 types-requires c κs = search needs
 
 own-lows-requires : tie.Need-own-lows-requires Inv-loop μ-loop
-own-lows-requires c κs = c .before .before .before .before .pre
+own-lows-requires c κs = start (c .before .before) .pre
 
 loop-holds : tie.Need-loop-holds Inv-loop μ-loop
-loop-holds c = climb-start (order-up (c .before .before)) (c .own-lows .ensures)
+loop-holds c = climb-start (order-up (c .before .before .before)) (c .own-lows .ensures)
 
 array-read-x : tie.Need-array-read-x Inv-loop μ-loop
 array-read-x c = omega (arith, is-type c, few c)
@@ -51,26 +68,25 @@ cast-x c = omega (arith, index c)
 mul-own : tie.Need-mul-own Inv-loop μ-loop
 mul-own c = omega (arith, index c)
 
-array-read-own : tie.Need-array-read-own Inv-loop μ-loop
-array-read-own c = index c
+element-copy-out-own : tie.Need-element-copy-out-own Inv-loop μ-loop
+element-copy-out-own c = index c
 
 children-requires : tie.Need-children-requires Inv-loop μ-loop
 children-requires c κs = search needs
 
 least-of-requires : tie.Need-least-of-requires Inv-loop μ-loop
 least-of-requires c κs =
-    let loop = c .before .before in
-    let start = loop .before .before .before .before .before .before .before in
+    let loop = c .before .before .before in
     let kids = c .before .children .ensures in
-    let f = facts (start .pre .accepted) in
-    let up = order-up (loop .before .before .before .before) .inside _ (is-type loop) in
+    let f = facts (begin loop .pre .0 .accepted) in
+    let up = order-up (ordered loop) .inside _ (is-type loop) in
     λ i l. rw kids (omega (arith, few loop, f .child-inside _ i up (rw (← f .children-here _ up, ← kids) l)))
 
 mul-low : tie.Need-mul-low Inv-loop μ-loop
-mul-low c = omega (arith, index (c .before .before .before))
+mul-low c = omega (arith, index (c .before .before .before .before))
 
-array-write-low : tie.Need-array-write-low Inv-loop μ-loop
-array-write-low c = index (c .before .before .before)
+element-write-low : tie.Need-element-write-low Inv-loop μ-loop
+element-write-low c = index (c .before .before .before .before)
 
 add-k : tie.Need-add-k Inv-loop μ-loop
 add-k c = omega arith
@@ -80,15 +96,13 @@ loop-less c = omega arith
 
 loop-again : tie.Need-loop-again Inv-loop μ-loop
 loop-again c =
-    let loop = c .before .before .before in
-    let start = loop .before .before .before .before .before .before .before in
-    climb-more (start .pre) (order-up (loop .before .before .before .before)) (loop .before .loop .inv) (is-type loop)
-    (rw (c .before .before .children .ensures) at (c .least-of .ensures))
+    let loop = c .before .before .before .before in
+    climb-more (begin loop .pre .0) (order-up (ordered loop)) (loop .before .loop .inv) (is-type loop) (rw (c .before .before .children .ensures) at (c .least-of .ensures))
 
 returns : tie.Need-returns Inv-loop μ-loop
 returns c =
     let at = c .before in
-    climb-all (order-up (at .before .before .before)) (at .loop .inv) (omega (arith, c .loop-test .left, at .before .before .types .ensures .is))
+    climb-all (order-up (at .before .before .before .before)) (at .loop .inv) (omega (arith, c .loop-test .left, at .before .before .before .types .ensures .is))
 
 pub forbidden-lows-spec : {M : Type 1} → statement M
 forbidden-lows-spec =
@@ -103,11 +117,11 @@ forbidden-lows-spec =
     array-read-x
     cast-x
     mul-own
-    array-read-own
+    element-copy-out-own
     children-requires
     least-of-requires
     mul-low
-    array-write-low
+    element-write-low
     add-k
     loop-less
     loop-again

@@ -12,22 +12,22 @@ use Rattle.verdict.specs.Below.{Low, ForbiddenOwn}
 use Rattle.table.specs.Privilege.{firstPrivilege}
 use native.Mathlib.Omega.{arith}
 use lib.ListN.{length, getD, length-set}
-use mathlib.Core.Path.{_≡_, refl, sym, _∙_}
+use mathlib.Core.Path.{_≡_, sym, _∙_}
 use Prim.Native.Nat.{ℕ, _-_, _≤_, _<_}
 use Rattle.verdict.proofs.below.own_lows.Statement.{statement}
 use Rattle.verdict.proofs.below.own_lows.Tie as tie
 
 abbrev Inv-loop : tie.InvT-loop
-Inv-loop words marks e low₀ first₀ x₀ low first x = (x ≤ e) × (first ≡ firstPrivilege words x) × (length low ≡ 256) × ((j : ℕ) → j < x → Low (ForbiddenOwn words marks j) (getD low j 0))
+Inv-loop words marks low₀ e first₀ x₀ low first x = (x ≤ e) × (first ≡ firstPrivilege words x) × (length low ≡ 256) × ((j : ℕ) → j < x → Low (ForbiddenOwn words marks j) (getD low j 0))
 
 abbrev μ-loop : tie.MeasureT-loop
-μ-loop words marks e low₀ first₀ x₀ low first x = e - x
+μ-loop words marks low₀ e first₀ x₀ low first x = e - x
 
 types-requires : tie.Need-types-requires Inv-loop μ-loop
 types-requires c κs = search needs
 
 loop-holds : tie.Need-loop-holds Inv-loop μ-loop
-loop-holds c = (search needs, sym (first-start _), refl, λ j l. absurd (omega arith))
+loop-holds c = (search needs, sym (first-start _), c .before .before .before .pre .1, λ j l. absurd (omega arith))
 
 privileges-at-requires : tie.Need-privileges-at-requires Inv-loop μ-loop
 privileges-at-requires c κs = search needs
@@ -37,7 +37,7 @@ is-type : (c : tie.In-loop Inv-loop μ-loop) → c .before .loop .x < types (now
 is-type c = omega (arith, c .loop-test .taken, c .before .before .types .ensures .is)
 
 small : (c : tie.In-loop Inv-loop μ-loop) → c .before .loop .x < 256
-small c = omega (arith, is-type c, facts (c .before .before .before .before .before .pre .accepted) .few)
+small c = omega (arith, is-type c, facts (c .before .before .before .before .before .pre .0 .accepted) .few)
 
 -- past the type's own privileges stand those of the next
 next-is : (c : tie.After-privileges-at Inv-loop μ-loop)
@@ -46,24 +46,30 @@ next-is c =
     let at = c .before .before .loop in
     rw (at .inv .1, c .privileges-at .ensures .is) (sym (first-next _ (at .x)))
 
-next-low : (c : tie.After-privileges-at Inv-loop μ-loop) → c .before .before .loop .first + c .privileges-at .result ≤ 4096
-next-low c =
+-- which are no more than there are marks
+next-inside : (c : tie.After-privileges-at Inv-loop μ-loop) → c .before .before .loop .first + c .privileges-at .result ≤ length (now (c .before .before .before .before .before .before .args .marks))
+next-inside c =
     let at = c .before .before in
     let start = at .before .before .before .before in
     let more : at .loop .x + 1 ≤ types (now (start .args .words)) = omega (arith, c .before .loop-test .taken, at .before .types .ensures .is) in
-    rw (next-is c) (omega (arith, first-within (now (start .args .words)) (at .loop .x + 1) more, facts (start .pre .accepted) .privileges-few))
+    rw (next-is c) (omega (arith, first-within (now (start .args .words)) (at .loop .x + 1) more, start .pre .0 .fit .size))
+
+next-low : (c : tie.After-privileges-at Inv-loop μ-loop) → c .before .before .loop .first + c .privileges-at .result ≤ 4096
+next-low c =
+    let start = c .before .before .before .before .before .before in
+    omega (arith, next-inside c, start .pre .0 .fit .size, facts (start .pre .0 .accepted) .privileges-few)
 
 add-next : tie.Need-add-next Inv-loop μ-loop
 add-next c = omega (arith, next-low c)
 
 forbidden-from-requires : tie.Need-forbidden-from-requires Inv-loop μ-loop
-forbidden-from-requires c κs = next-low c
+forbidden-from-requires c κs = (omega arith, next-inside c, next-low c)
 
 mul-low : tie.Need-mul-low Inv-loop μ-loop
 mul-low c = omega arith
 
-array-write-low : tie.Need-array-write-low Inv-loop μ-loop
-array-write-low c = small (c .before .before)
+element-write-low : tie.Need-element-write-low Inv-loop μ-loop
+element-write-low c = small (c .before .before)
 
 add-x : tie.Need-add-x Inv-loop μ-loop
 add-x c = search needs
@@ -101,7 +107,7 @@ own-lows-spec =
     add-next
     forbidden-from-requires
     mul-low
-    array-write-low
+    element-write-low
     add-x
     loop-less
     loop-again

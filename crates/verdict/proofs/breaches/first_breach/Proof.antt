@@ -8,7 +8,7 @@ use Rattle.table.specs.Privilege.{firstPrivilege}
 use Rattle.table.specs.Words.{types}
 use denote.Ref.{now}
 use native.Mathlib.Omega.{arith}
-use mathlib.Core.Path.{_≡_, sym, ap, _∙_}
+use mathlib.Core.Path.{_≡_, refl, sym, ap, _∙_}
 use Prim.Native.Nat.{ℕ, _-_, _+_, _≤_, _<_}
 use Rattle.verdict.proofs.breaches.first_breach.Statement.{statement}
 use Rattle.verdict.proofs.breaches.first_breach.Tie as tie
@@ -20,11 +20,11 @@ abbrev μ-loop : tie.MeasureT-loop
 μ-loop words marks low e first₀ x₀ first x = e - x
 
 -- the loop stands at a type
-is-type : (c : tie.In-loop Inv-loop μ-loop) → c .before .loop .x < types (now (c .before .before .before .before .before .before .args .words))
+is-type : (c : tie.In-loop Inv-loop μ-loop) → c .before .loop .x < types (now (c .before .before .before .before .before .before .before .args .words))
 is-type c = omega (arith, c .loop-test .taken, c .before .before .types .ensures .is)
 
 forbidden-lows-requires : tie.Need-forbidden-lows-requires Inv-loop μ-loop
-forbidden-lows-requires c κs = c .before .before .pre
+forbidden-lows-requires c κs = (c .before .before .before .pre, refl)
 
 types-requires : tie.Need-types-requires Inv-loop μ-loop
 types-requires c κs = search needs
@@ -35,7 +35,7 @@ loop-holds c = (search needs, sym (first-start _), clean-start _ _)
 breach-at-requires : tie.Need-breach-at-requires Inv-loop μ-loop
 breach-at-requires c κs =
     let at = c .before .before in
-    let start = at .before .before .before .before .before in
+    let start = at .before .before .before .before .before .before in
     (start .pre, at .before .before .forbidden-lows .ensures, is-type (c .before), at .loop .inv .1)
 
 enum-told : tie.Need-enum-told Inv-loop μ-loop
@@ -47,7 +47,7 @@ privileges-at-requires c κs = search needs
 add-first : tie.Need-add-first Inv-loop μ-loop
 add-first c =
     let loop = c .before .before .before .before .before in
-    let start = loop .before .before .before .before .before .before in
+    let start = loop .before .before .before .before .before .before .before in
     omega (arith, c .privileges-at .ensures .small, first-within (now (start .args .words)) (loop .before .loop .x) (omega (arith, is-type loop)), facts (start .pre .accepted) .privileges-few)
 
 add-x : tie.Need-add-x Inv-loop μ-loop
@@ -77,7 +77,7 @@ no-breach-requires c κs = search needs
 returns-2 : tie.Need-returns-2 Inv-loop μ-loop
 returns-2 c =
     let at = c .before .before in
-    let start = at .before .before .before .before .before in
+    let start = at .before .before .before .before .before .before in
     let end : at .loop .x ≡ types (now (start .args .words)) = omega (arith, at .loop .inv .0, c .before .loop-test .left, at .before .types .ensures .is) in
     clean (clean-all _ _ (rw end at (at .loop .inv .2))) (c .no-breach .ensures)
 
