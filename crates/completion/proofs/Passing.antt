@@ -17,11 +17,12 @@ use Rattle.table.proofs.Facts.{facts}
 use Rattle.verdict.specs.Marks.{Allowed}
 use Rattle.verdict.specs.Reached.{Reached, marked, Square}
 use Rattle.verdict.specs.Forces.{chain}
-use Rattle.verdict.proofs.SquareLaws.{marked-told, told-marked}
+use Rattle.verdict.proofs.SquareLaws.{marked-told, told-marked, room-of}
 use Rattle.verdict.proofs.Forced.{reached-replaceable}
 use Rattle.completion.specs.Opens.{star, cycle, Opened, Granted, PassesOn}
 use Rattle.completion.specs.Passes.{Visited, Both}
-use Rattle.completion.specs.Writing.{Decision, KidsOpened, ChoiceWritten, Room, TypeWritten, RangeWritten}
+use Rattle.verdict.specs.Squares.{Room}
+use Rattle.completion.specs.Writing.{Decision, KidsOpened, ChoiceWritten, TypeWritten, RangeWritten}
 use Rattle.completion.proofs.Closed.{opened-forces, Chained, forces-cases, step-source}
 use Rattle.completion.proofs.Openings.{kids-as}
 use Rattle.completion.proofs.Writings.{decision-as}
@@ -166,7 +167,4 @@ module _ {ws marks kids opened out : List ℕ} {x first : ℕ} (v : Visited ws m
 
   -- room for the replacements of a choice
   pub choice-room : {n : Numbering} → IsChoice ws x → NumberedAs ws x n → Room n out
-  choice-room c h = record {
-    small = record { low = h .low; few = h .few };
-    room = λ i j r. rw (replace-in h i j) (omega (arith, v .room, edit-below ws (replace x i j) (in-replaceable h c r)));
-  }
+  choice-room c h = room-of (v .room) c h

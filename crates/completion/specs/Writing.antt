@@ -10,7 +10,6 @@ use Rattle.table.specs.Lowest.{Tells}
 use Rattle.table.specs.Privilege.{Belongs, replaceIn, ReplaceableIn}
 use Rattle.table.specs.declared.privilege.Numbering.{Numbering}
 use Rattle.verdict.specs.Reached.{marked}
-use Rattle.verdict.specs.Squares.{Small}
 
 -- a mark: allowed if P holds, else forbidden
 pub data Decision (P : Type 0) (mark : ℕ) : Type 0 where
@@ -40,11 +39,6 @@ pub record ChoiceWritten (n : Numbering) (square old new : List ℕ) : Type 0 wh
   pub size : length new ≡ length old
   pub all : (i j : ℕ) → ReplaceableIn n i j → Decision (marked square i j ≡ true) (getD new (replaceIn n i j) 0)
   pub rest : (p : ℕ) → ((i j : ℕ) → ReplaceableIn n i j → p ≢ replaceIn n i j) → getD new p 0 ≡ getD old p 0
-
--- room for the replacements of a choice
-pub record Room (n : Numbering) (out : List ℕ) : Type 0 where
-  pub small : Small n
-  pub room : (i j : ℕ) → ReplaceableIn n i j → replaceIn n i j < length out
 
 -- the privileges of type x are decided by P, and the rest is as it was
 pub record TypeWritten (ws : List ℕ) (P : ℕ → Type 0) (x : ℕ) (old new : List ℕ) : Type 0 where

@@ -16,14 +16,14 @@ use Rattle.table.specs.Words.{types}
 use Rattle.table.specs.Rule.{IsChoice, childrenAt}
 use Rattle.table.specs.Check.{Accepted}
 use Rattle.table.proofs.Facts.{facts}
-use Rattle.table.specs.Privilege.{NumberedAs}
+use Rattle.table.specs.Privilege.{NumberedAs, privileges, replace}
 use Rattle.table.specs.declared.privilege.Numbering.{Numbering}
 use Rattle.table.proofs.Lists.{le-or-lt}
 use Rattle.table.proofs.Lowest.{told-yes, tells-as, tells-by}
-use Rattle.table.proofs.Privileges.{replaceable-in, in-replaceable, replace-in}
-use Rattle.verdict.specs.Marks.{Allowed}
+use Rattle.table.proofs.Privileges.{edit-below, replaceable-in, in-replaceable, replace-in}
+use Rattle.verdict.specs.Marks.{Allowed, Policy}
 use Rattle.verdict.specs.Reached.{Plus, Step, marked, Marked, Square}
-use Rattle.verdict.specs.Squares.{StepIn, ForbiddenIn, Flags, on, off, Small, Joined}
+use Rattle.verdict.specs.Squares.{StepIn, ForbiddenIn, Flags, on, off, Room, Joined}
 use Rattle.verdict.specs.Visits.{Broken}
 use Rattle.verdict.proofs.Closures.{Via, via-more, via-all}
 
@@ -96,8 +96,14 @@ module _ {ws : List ℕ} {x : ℕ} {n : Numbering} (h : NumberedAs ws x n) (c : 
 pub kids-here : {ws kids : List ℕ} {x : ℕ} {n : Numbering} → Accepted ws → x < types ws → kids ≡ childrenAt ws x → NumberedAs ws x n → length kids ≡ n .count
 kids-here {x = x} good type kids h = ap length kids ∙ facts good .children-here x type ∙ sym (h .count)
 
-pub small-of : {ws : List ℕ} {x : ℕ} {n : Numbering} → NumberedAs ws x n → Small n
-small-of h = record { low = h .low; few = h .few }
+pub room-of : {ws out : List ℕ} {x : ℕ} {n : Numbering} → privileges ws ≤ length out → IsChoice ws x → NumberedAs ws x n → Room n out
+room-of {ws} {x = x} enough choice h = record {
+  small = record { low = h .low; few = h .few };
+  room = λ i j can. rw (replace-in h i j) (omega (arith, enough, edit-below ws (replace x i j) (in-replaceable h choice can)));
+}
+
+pub policy-room : {ws marks : List ℕ} {x : ℕ} {n : Numbering} → Policy ws marks → IsChoice ws x → NumberedAs ws x n → Room n marks
+policy-room pol choice h = room-of (omega (arith, pol .fit .size)) choice h
 
 -- a broken pair is one that both squares mark
 module _ {marks : List ℕ} {n : Numbering} {square forbidden : List ℕ} (bans : Square (n .count) (ForbiddenIn marks n) forbidden)

@@ -38,6 +38,11 @@ pub record Small (n : Numbering) : Type 0 where
   pub low : n .first ≤ 4096
   pub few : n .count ≤ 16
 
+-- room for the replacements of a choice
+pub record Room (n : Numbering) (marks : List ℕ) : Type 0 where
+  pub small : Small n
+  pub room : (i j : ℕ) → ReplaceableIn n i j → replaceIn n i j < length marks
+
 -- a row tells P of each of the first n positions
 pub record Row (n : ℕ) (P : ℕ → Type 0) (row : ℕ) : Type 0 where
   pub fits : row < 65536

@@ -7,21 +7,20 @@ ghost use Rattle.table.specs.Rule.{IsChoice, countOf, childrenAt};
 ghost use Rattle.table.specs.Privilege.{NumberedAs};
 ghost use Rattle.verdict.specs.Marks.{Allowed, Policy};
 ghost use Rattle.verdict.specs.Reached.{Plus, Reached, bit, marked, Marked, Square};
-ghost use Rattle.verdict.specs.Squares.{StepIn, MarkIn, Flags, Small, RowRead, Read, RowJoined, Joined, Toggled};
-use super::marks::mark_at;
+ghost use Rattle.verdict.specs.Squares.{StepIn, MarkIn, Flags, Room, RowRead, Read, RowJoined, Joined, Toggled};
 use table::privilege::Numbering;
 use table::privilege::is_replaceable;
 use table::privilege::replacement;
 
 // The mark of the replacement of i by j; 0 where there is none.
 fn mark_of(marks: &[u8], n: Numbering, i: usize, j: usize) -> u8
-    requires { ⌜ Small n ⌝ }
+    requires { ⌜ Room n (now marks) ⌝ }
     ensures { λ r. ⌜ MarkIn (now (marks .entry)) n i j r ⌝ }
 {
     if !is_replaceable(n, i, j) {
         return 0;
     }
-    mark_at(marks, replacement(n, i, j))
+    marks[replacement(n, i, j)]
 }
 
 // 1 if the mark is the one asked for, else 0.
@@ -39,7 +38,7 @@ fn read_row(
     allowed: &mut [u16; 16],
     forbidden: &mut [u16; 16],
 )
-    requires { ⌜ Small n × (i < 16) × (length (now allowed) ≡ 16) × (length (now forbidden) ≡ 16) ⌝ }
+    requires { ⌜ Room n (now marks) × (i < 16) × (length (now allowed) ≡ 16) × (length (now forbidden) ≡ 16) ⌝ }
     ensures { λ _. ⌜ RowRead (now (marks .entry)) n i (now (allowed .entry)) (now (forbidden .entry)) (now (allowed .exit)) (now (forbidden .exit)) ⌝ }
 {
     let mut steps: u16 = 0;
@@ -63,7 +62,7 @@ pub fn read_rows(
     allowed: &mut [u16; 16],
     forbidden: &mut [u16; 16],
 )
-    requires { ⌜ Small n × (length (now kids) ≡ n .count) × (length (now allowed) ≡ 16) × (length (now forbidden) ≡ 16) ⌝ }
+    requires { ⌜ Room n (now marks) × (length (now kids) ≡ n .count) × (length (now allowed) ≡ 16) × (length (now forbidden) ≡ 16) ⌝ }
     ensures { λ _. ⌜ Read (now (marks .entry)) n (now (allowed .exit)) (now (forbidden .exit)) ⌝ }
 {
     let mut i = 0;

@@ -6,7 +6,7 @@ use denote.Ref.{now}
 use native.Mathlib.Omega.{arith}
 use Rattle.table.specs.Privilege.{privileges, replaceIn}
 use Rattle.verdict.specs.Squares.{StepIn, Read}
-use Rattle.verdict.proofs.SquareLaws.{kids-here, small-of}
+use Rattle.verdict.proofs.SquareLaws.{kids-here, policy-room}
 use Rattle.mending.specs.Taking.{TakenAt, start}
 use Rattle.mending.proofs.Counting.{allowedIn}
 use Rattle.mending.proofs.Staying.{Mending, next-within, next-less, mending-take, mending-few}
@@ -33,8 +33,9 @@ to-few c = omega (arith, told c .0 .can .to, c .before .before .before .before .
 
 read-rows-requires : tie.Need-read-rows-requires Inv-loop μ-loop
 read-rows-requires c κs =
-    let v = c .before .before .before .before .before .before .pre .0 in
-    (small-of (v .numbered), kids-here (v .policy .accepted) (v .type) (v .kids-are) (v .numbered), refl, refl)
+    let begin = c .before .before .before .before .before .before in
+    let v = begin .pre .0 in
+    (policy-room (v .policy) (begin .pre .1) (v .numbered), kids-here (v .policy .accepted) (v .type) (v .kids-are) (v .numbered), refl, refl)
 
 loop-holds : tie.Need-loop-holds Inv-loop μ-loop
 loop-holds c =

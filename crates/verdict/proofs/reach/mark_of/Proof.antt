@@ -1,6 +1,9 @@
 -- Whether there is such a privilege was asked. Assumes nothing.
 use borrow.Author.Needs.{needs}
-use mathlib.Core.Path.{refl}
+use Prim.Native.Nat.{ℕ}
+use denote.Ref.{now}
+use lib.ListN.{getD}
+use mathlib.Core.Path.{refl, ap}
 use borrow.Author.Tests.{not-true, not-false}
 use Rattle.table.specs.Privilege.{ReplaceableIn}
 use Rattle.table.proofs.Lowest.{told-yes, told-no}
@@ -20,16 +23,20 @@ returns c = let asked = c .before .is-replaceable in none (told-no (asked .resul
 
 replacement-requires : tie.Need-replacement-requires
 replacement-requires c κs =
-    let small = c .before .before .before .pre in
+    let small = c .before .before .before .pre .small in
     record { low = small .low; few = small .few; from = can c .from; to = can c .to }
 
-mark-at-requires : tie.Need-mark-at-requires
-mark-at-requires c κs = search needs
+shared-slice-read-result : tie.Need-shared-slice-read-result
+shared-slice-read-result c =
+    let start = c .before .before .before .before .before in
+    rw (c .before .replacement .ensures) (start .pre .room (start .args .i) (start .args .j) (can (c .before .before)))
 
 returns-2 : tie.Need-returns-2
-returns-2 c = there (can (c .before .before)) (rw (← c .before .replacement .ensures) (c .mark-at .ensures))
+returns-2 c =
+    let marks = now (c .before .before .before .before .before .args .marks) in
+    there (can (c .before .before)) (ap (λ (p : ℕ). getD marks p 0) (c .before .replacement .ensures))
 
 pub mark-of-spec : {M : Type 1} → statement M
 mark-of-spec =
     tie.close
-    (tie.spec is-replaceable-requires returns replacement-requires mark-at-requires returns-2)
+    (tie.spec is-replaceable-requires returns replacement-requires shared-slice-read-result returns-2)

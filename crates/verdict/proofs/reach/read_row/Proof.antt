@@ -25,7 +25,7 @@ mark-of-requires c κs = search needs
 mul-steps : tie.Need-mul-steps Inv-loop μ-loop
 mul-steps c =
     let at = c .before .before in
-    record { fits = omega (arith, row-small (at .loop .inv .0) (c .before .loop-test .taken) (at .before .before .pre .0 .few)) }
+    record { fits = omega (arith, row-small (at .loop .inv .0) (c .before .loop-test .taken) (at .before .before .pre .0 .small .few)) }
 
 flag-requires : tie.Need-flag-requires Inv-loop μ-loop
 flag-requires c κs = search needs
@@ -33,12 +33,12 @@ flag-requires c κs = search needs
 add-steps : tie.Need-add-steps Inv-loop μ-loop
 add-steps c =
     let at = c .before .before .before in
-    record { fits = omega (arith, row-small (at .loop .inv .0) (c .before .before .loop-test .taken) (at .before .before .pre .0 .few), flag-few (c .flag .ensures)) }
+    record { fits = omega (arith, row-small (at .loop .inv .0) (c .before .before .loop-test .taken) (at .before .before .pre .0 .small .few), flag-few (c .flag .ensures)) }
 
 mul-bans : tie.Need-mul-bans Inv-loop μ-loop
 mul-bans c =
     let at = c .before .before .before in
-    record { fits = omega (arith, row-small (at .loop .inv .1) (c .before .before .loop-test .taken) (at .before .before .pre .0 .few)) }
+    record { fits = omega (arith, row-small (at .loop .inv .1) (c .before .before .loop-test .taken) (at .before .before .pre .0 .small .few)) }
 
 flag-requires-2 : tie.Need-flag-requires-2 Inv-loop μ-loop
 flag-requires-2 c κs = search needs
@@ -46,7 +46,7 @@ flag-requires-2 c κs = search needs
 add-bans : tie.Need-add-bans Inv-loop μ-loop
 add-bans c =
     let at = c .before .before .before .before in
-    record { fits = omega (arith, row-small (at .loop .inv .1) (c .before .before .before .loop-test .taken) (at .before .before .pre .0 .few), flag-few (c .flag2 .ensures)) }
+    record { fits = omega (arith, row-small (at .loop .inv .1) (c .before .before .before .loop-test .taken) (at .before .before .pre .0 .small .few), flag-few (c .flag2 .ensures)) }
 
 loop-less : tie.Need-loop-less Inv-loop μ-loop
 loop-less c = search needs
@@ -74,7 +74,7 @@ element-write-forbidden c = search needs
 
 returns : tie.Need-returns Inv-loop μ-loop
 returns c =
-    let few = c .before .before .before .pre .0 .few in
+    let few = c .before .before .before .pre .0 .small .few in
     let rows = c .before .loop .inv in
     record {
       steps = c .before .loop .steps;
