@@ -12,7 +12,7 @@ use Rattle.table.specs.Privilege.{privilegesAt, firstPrivilege, privileges, Bel
 use Rattle.table.specs.declared.privilege.Numbering.{Numbering}
 use Rattle.table.specs.Check.{Accepted}
 use Rattle.table.proofs.Lists.{le-or-lt}
-use Rattle.table.proofs.Privileges.{first-next, first-within, belongs-one, edit-belongs, edit-below, edit-of, insert-in, delete-in, in-replaceable, replaceable-in, replace-in}
+use Rattle.table.proofs.Privileges.{first-next, first-within, belongs-one, edit-belongs, edit-of, insert-in, delete-in, in-replaceable, replaceable-in, replace-in}
 use Rattle.table.proofs.Facts.{facts}
 use Rattle.verdict.specs.Marks.{Allowed}
 use Rattle.verdict.specs.Reached.{Reached, marked, Square}

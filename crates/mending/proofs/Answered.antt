@@ -1,14 +1,14 @@
 -- Mending and judging a proposed mend have one answer each, and what mending gives is accepted with the same count. Assumes nothing.
 use Prim.Native.Nat.{ℕ, _+_, _≤_, _<_}
-use mathlib.Core.Path.{_≡_, refl, sym, ap, _∙_}
-use mathlib.Core.Logic.{_≢_, _⊎_, inl, inr}
+use mathlib.Core.Path.{_≡_, sym, ap, _∙_}
+use mathlib.Core.Logic.{inl, inr}
 use mathlib.Core.List.{List, _++_}
 use native.Mathlib.Omega.{arith}
-use lib.ListN.{length, getD, drop}
+use lib.ListN.{getD, drop}
 use Rattle.table.specs.Lowest.{LowestAt}
 use Rattle.table.specs.Privilege.{privileges}
 use Rattle.table.proofs.Answers.{lowest-one}
-use Rattle.verdict.specs.Marks.{Fit, Unfit, Policy}
+use Rattle.verdict.specs.Marks.{Fit, Policy}
 use Rattle.verdict.specs.Answers.{refusal, breached}
 use Rattle.verdict.specs.Answers as answers
 use Rattle.verdict.specs.declared.Answer.{Answer}
@@ -16,10 +16,9 @@ use Rattle.verdict.proofs.Policies.{refused-one, policy-not, fit-not, unfit-one
 use Rattle.verdict.proofs.Judged.{refusal-one}
 use Rattle.verdict.proofs.Firsts.{first-one, clean-none}
 use Rattle.mending.specs.Mends.{Mends}
-use Rattle.mending.specs.Proposals.{Kept, changes}
-use Rattle.mending.specs.Answers.{MendAnswer, AllKept, ProposeAnswer, unfit, changed, broken, accepted}
-use Rattle.mending.specs.Answers as outcomes
-use Rattle.mending.proofs.Mended.{mends-one, mends-clean, Lowered, mends-lowered, mends-count}
+use Rattle.mending.specs.Proposals.{Kept}
+use Rattle.mending.specs.Answers.{MendAnswer, ProposeAnswer, unfit, changed, broken, accepted}
+use Rattle.mending.proofs.Mended.{mends-one, mends-clean, mends-lowered, mends-count}
 
 -- one outcome of mending
 pub mend-one : {ws marks out x y : List ℕ} {a b : Answer} → MendAnswer ws marks out a x → MendAnswer ws marks out b y → (a ≡ b) × (x ≡ y)

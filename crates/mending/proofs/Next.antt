@@ -2,7 +2,7 @@
 use Prim.Native.Nat.{ℕ, _+_, _≤_, _<_}
 use mathlib.Core.Path.{_≡_, refl, sym, ap, _∙_}
 use mathlib.Core.Logic.{_≢_, _⊎_, inl, inr}
-use mathlib.Core.Bool.{Bool, true, false}
+use mathlib.Core.Bool.{true}
 use mathlib.Core.List.{List}
 use native.Mathlib.Omega.{arith}
 use borrow.Author.Tests.{lt-ltb, le-ltb}
@@ -22,18 +22,17 @@ use Rattle.table.proofs.Privileges.{replace-in}
 use Rattle.table.proofs.Facts.{facts}
 use Rattle.verdict.specs.Marks.{Allowed}
 use Rattle.verdict.specs.Below.{ForbiddenBelow}
-use Rattle.verdict.specs.Breaches.{conditionNumber, ChainBreach, CycleBreach, IsBreach, FirstBreach}
+use Rattle.verdict.specs.Breaches.{conditionNumber, ChainBreach, CycleBreach, IsBreach}
 use Rattle.verdict.specs.Visits.{Broken, FirstAt}
 use Rattle.verdict.specs.declared.Breach.{Breach}
 use Rattle.verdict.specs.declared.Condition.the-variants.{InsertDelete, Chain, Cycle}
 use Rattle.verdict.proofs.PolicyTests.{forbiddenBelow}
 use Rattle.verdict.proofs.Firsts.{at-first}
-use Rattle.verdict.specs.Reached.{Plus, last, next, Step, Reached, marked, Square}
-use Rattle.verdict.specs.Squares.{StepIn}
+use Rattle.verdict.specs.Reached.{last, next, Step, Reached, marked, Square}
 use Rattle.verdict.proofs.SquareLaws.{step-out, step-into, told-marked}
 use Rattle.verdict.proofs.Breached.{reached-from, reached-to, star-first, star-closed, star-free, choice-only, chain-none, chain-first, choice-at, CyclesFrom, cycle-first}
 use Rattle.mending.proofs.Counting.{taken-here}
-use Rattle.mending.specs.Mends.{Leads, LowestLead, Takes}
+use Rattle.mending.specs.Mends.{Leads, LowestLead}
 use Rattle.mending.specs.Taking.{CleanUpTo, Visited, LeadsIn, LowestIn, SpoiltAt, TakenAt}
 
 -- the square's leads are the choice's

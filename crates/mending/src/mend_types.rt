@@ -1,10 +1,10 @@
 // Mending type by type, in one ascending pass, each until it has no breach. Contracts cite specs/Taking and specs/Mends.
 ghost use mathlib.Core.Path.{_≡_};
-ghost use Prim.Native.Nat.{_≤_, _<_};
+ghost use Prim.Native.Nat.{_<_};
 ghost use lib.ListN.{length};
 ghost use Rattle.table.specs.Words.{types};
 ghost use Rattle.table.specs.Rule.{IsChoice, IsStar};
-ghost use Rattle.table.specs.Privilege.{firstPrivilege, privileges};
+ghost use Rattle.table.specs.Privilege.{firstPrivilege};
 ghost use Rattle.verdict.specs.Marks.{Policy};
 ghost use Rattle.mending.specs.Mends.{Mends};
 ghost use Rattle.mending.specs.Taking.{Spoilt, CleanUpTo, Visited, Cleaned};

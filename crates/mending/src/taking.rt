@@ -1,12 +1,11 @@
 // What the mending rule takes next at a choice. Contracts cite specs/Taking.
-ghost use mathlib.Core.Path.{_≡_};
 ghost use Prim.Native.Nat.{ℕ, _≤_, _<_};
 ghost use lib.ListN.{length, getD};
 ghost use mathlib.Core.Bool.{true};
-ghost use Rattle.table.specs.Lowest.{Lowest, Tells};
+ghost use Rattle.table.specs.Lowest.{Tells};
 ghost use Rattle.table.specs.Rule.{IsChoice, countOf};
 ghost use Rattle.verdict.specs.Marks.{Allowed};
-ghost use Rattle.verdict.specs.Reached.{Reached, Square, marked};
+ghost use Rattle.verdict.specs.Reached.{Reached, Square};
 ghost use Rattle.verdict.specs.Squares.{StepIn, Small, Read};
 ghost use Rattle.mending.specs.Taking.{Visited, LeadsIn, LowestIn, SpoiltCycle, NextTaken};
 use table::Found;

@@ -1,6 +1,6 @@
 // What the program judge prints for a file. Contracts cite specs/File for what the file lends and specs/Report for the lines.
 ghost use Prim.Native.Nat.{_+_, _*_, _≤_};
-ghost use mathlib.Core.List.{_∷_, []};
+ghost use mathlib.Core.List.{[]};
 ghost use mathlib.Core.Path.{_≡_};
 ghost use lib.ListN.{length, take};
 ghost use Rattle.table.specs.Check.{Accepted};

@@ -1,7 +1,7 @@
 -- The children of a table whose checks 2 to 5 pass: each type's are all there, and the stretches make up the child list. Assumes nothing.
 use Prim.Native.Nat.{ℕ, zero, suc, _+_, _-_, _*_, _≤_, _<_}
 use mathlib.Core.Path.{_≡_, refl, sym, ap, _∙_}
-use mathlib.Core.Logic.{_≢_, _⊎_, inl, inr}
+use mathlib.Core.Logic.{_≢_, inl, inr}
 use mathlib.Core.List.{List}
 use native.Mathlib.Omega.{arith}
 use lib.ListN.{length, getD, take, drop, length-drop}
@@ -11,7 +11,7 @@ use Rattle.table.specs.Seen.{Stands}
 use Rattle.table.specs.Rule.{ruleOf, ruleAt, countIn, countOf, childrenIn, childrenAt, childAt, Child}
 use Rattle.table.specs.Check.{Laid, RightCount, Follows, Somebodys, Earlier, numberOf}
 use Rattle.table.specs.declared.check.Check.{Check}
-use Rattle.table.specs.declared.check.Check.the-variants.{Layout, Kind, Count, Stretch, Bounds, Twice, Orphan}
+use Rattle.table.specs.declared.check.Check.the-variants.{Layout, Kind, Count, Stretch}
 use Rattle.table.proofs.Sum.{sum-part, Falls, falls-some}
 
 -- what checks 2 to 5 ask

@@ -1,12 +1,12 @@
 -- What the layers above rely on of an accepted table, one that `check_table` answers with number 0. Assumes nothing.
-use Prim.Native.Nat.{ℕ, zero, suc, _+_, _≤_, _<_}
+use Prim.Native.Nat.{ℕ, zero, suc, _≤_, _<_}
 use mathlib.Core.Path.{_≡_, refl, sym, _∙_}
 use mathlib.Core.Logic.{_≢_, _⊎_, inl, inr}
 use mathlib.Core.List.{List}
 use native.Mathlib.Omega.{arith}
 use lib.ListN.{length}
 use Rattle.table.specs.Words.{types, kindAt, countAt, firstAt}
-use Rattle.table.specs.Rule.{ruleOf, ruleAt, kindIn, countIn, countOf, childrenAt, childAt, IsStar, Child}
+use Rattle.table.specs.Rule.{ruleOf, ruleAt, kindIn, countOf, childrenAt, childAt, IsStar, Child}
 use Rattle.table.specs.Privilege.{privileges}
 use Rattle.table.specs.Check.{RightCount, Accepted}
 use Rattle.table.specs.declared.check.Check.the-variants.{Kind, Count, Bounds, Twice, Orphan, Total}

@@ -6,10 +6,9 @@ use mathlib.Core.Bool.{Bool, true, false, not, _&&_}
 use native.Mathlib.Numerals.{add-one-le}
 use native.Mathlib.Omega.{arith}
 use borrow.Author.Count.{below-more, below-none}
-use borrow.Author.Tests.{ltb-true, ltb-false, leb-true, leb-false, eqb-true, eqb-false}
-use lib.Dec.{ltb, leb, eqb}
-use Rattle.table.specs.Lowest.{LowestAt, Lowest, Tells}
-use Rattle.table.specs.declared.Found.the-variants.{At, Nothing}
+use borrow.Author.Tests.{leb-true, leb-false, eqb-true, eqb-false}
+use lib.Dec.{leb, eqb}
+use Rattle.table.specs.Lowest.{LowestAt, Tells}
 
 -- the search stands at i, and at no place before does Good fail
 pub record Passed (Good : ℕ → Type 0) (n i : ℕ) : Type 0 where

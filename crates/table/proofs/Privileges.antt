@@ -2,7 +2,7 @@
 use Prim.Native.Nat.{ℕ, zero, suc, _+_, _-_, _*_, _≤_, _<_}
 use mathlib.Core.Path.{_≡_, refl, sym, ap, _∙_}
 use mathlib.Core.Logic.{_≢_, _⊎_, inl, inr}
-use mathlib.Core.Bool.{Bool, true, false, cond}
+use mathlib.Core.Bool.{cond}
 use mathlib.Core.List.{List}
 use native.Mathlib.Nat.{mul-le-mul, mul-le-mul-right}
 use native.Mathlib.Omega.{arith}
@@ -10,7 +10,7 @@ use borrow.Author.Tests.{lt-ltb, le-ltb}
 use lib.Dec.{ltb}
 use Rattle.table.specs.Sum.{sumBelow}
 use Rattle.table.specs.Words.{types}
-use Rattle.table.specs.Rule.{ruleAt, kindIn, countIn, countOf, OfKind, IsText, IsChoice, IsStar}
+use Rattle.table.specs.Rule.{ruleAt, kindIn, countIn, countOf, IsText, IsChoice, IsStar}
 use Rattle.table.specs.Privilege.{privilegesOf, privilegesAt, firstPrivilege, privileges, Belongs, slotOf, insertOf, deleteOf, replaceOf, NumberedAs, Positions, insertIn, deleteIn, replaceIn, ReplaceableIn, Replaceable, Edit, text, insert, delete, replace, typeOf, Offers, privilegeOf}
 use Rattle.table.specs.declared.privilege.Numbering.{Numbering}
 use Rattle.table.specs.declared.rule.Rule.{Rule}

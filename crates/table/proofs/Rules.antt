@@ -1,11 +1,10 @@
 -- Laws of rules and children. Assumes nothing.
-use Prim.Native.Nat.{ℕ, zero, suc, _+_, _*_, _≤_, _<_}
+use Prim.Native.Nat.{ℕ, zero, suc, _≤_}
 use mathlib.Core.Path.{_≡_, refl}
 use mathlib.Core.Logic.{_≢_}
-use mathlib.Core.List.{List}
 use native.Mathlib.Omega.{arith}
 use Rattle.table.specs.Words.{Widened}
-use Rattle.table.specs.Rule.{ruleOf, firstIn, countIn, kindIn, ReadAs}
+use Rattle.table.specs.Rule.{ruleOf, firstIn, countIn, ReadAs}
 use Rattle.table.specs.declared.rule.Rule.{Rule}
 use Rattle.table.specs.declared.rule.Rule.the-variants.{Empty}
 

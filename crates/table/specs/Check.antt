@@ -8,7 +8,7 @@ use lib.ListN.{length, getD}
 use Rattle.table.specs.Lowest.{LowestAt}
 use Rattle.table.specs.Words.{types, entries, kindAt, countAt, firstAt, childList, running}
 use Rattle.table.specs.Seen.{Seen}
-use Rattle.table.specs.Rule.{childrenAt, childAt, Child}
+use Rattle.table.specs.Rule.{childrenAt, Child}
 use Rattle.table.specs.Privilege.{privileges}
 use Rattle.table.specs.declared.check.Check.{Check}
 use Rattle.table.specs.declared.check.Check.the-variants.{Format, Layout, Kind, Count, Stretch, Bounds, Twice, Orphan, Total}

@@ -6,7 +6,7 @@ ghost use mathlib.Core.Logic.{_≢_};
 ghost use Rattle.table.specs.Lowest.{Lowest, Tells};
 ghost use Rattle.table.specs.Seen.{Seen};
 ghost use Rattle.table.specs.Words.{types, running, childList};
-ghost use Rattle.table.specs.Check.{Headed, Laid, RightCount, Follows, Bounded, Differ, Somebodys, Counted, Holds, placesIn, placesOf, numberOf, Earlier, Asked};
+ghost use Rattle.table.specs.Check.{Headed, Laid, RightCount, Follows, Bounded, Differ, Counted, Holds, placesIn, placesOf, numberOf, Earlier, Asked};
 use super::Found;
 use super::privilege::privileges;
 use super::rule::children;

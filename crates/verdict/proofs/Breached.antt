@@ -1,21 +1,20 @@
 -- The first breach at one type, by its kind. Assumes nothing.
-use Prim.Native.Nat.{ℕ, zero, suc, _+_, _≤_, _<_}
+use Prim.Native.Nat.{ℕ, _+_, _≤_, _<_}
 use mathlib.Core.Path.{_≡_, refl, sym, ap, subst, _∙_}
 use mathlib.Core.Logic.{_≢_, _⊎_, inl, inr}
 use mathlib.Core.Bool.{Bool, true, false}
 use mathlib.Core.List.{List, [], _∷_}
 use native.Mathlib.Omega.{arith}
-use Rattle.table.specs.Words.{types}
 use Rattle.table.specs.Rule.{ruleAt, kindIn, countOf, childAt, IsChoice, IsStar}
-use Rattle.table.specs.Privilege.{insertOf, deleteOf, replaceOf, NumberedAs, replaceIn}
+use Rattle.table.specs.Privilege.{insertOf, deleteOf, NumberedAs, replaceIn}
 use Rattle.table.specs.declared.privilege.Numbering.{Numbering}
 use Rattle.table.specs.Lowest.{Tells}
-use Rattle.table.proofs.Lowest.{told-yes, told-no}
+use Rattle.table.proofs.Lowest.{told-yes}
 use Rattle.table.proofs.Privileges.{replace-in}
-use Rattle.verdict.specs.Marks.{Allowed, Forbidden}
-use Rattle.verdict.specs.Below.{PrivilegeBelow, ForbiddenBelow}
-use Rattle.verdict.specs.Reached.{Plus, last, next, Reached, marked, Square}
-use Rattle.verdict.specs.Breaches.{conditionNumber, noBreach, InsertDeleteBreach, ChainBreach, CycleBreach, BreachOf, IsBreach, key, Lex, BreachAt, none, first}
+use Rattle.verdict.specs.Marks.{Allowed}
+use Rattle.verdict.specs.Below.{ForbiddenBelow}
+use Rattle.verdict.specs.Reached.{last, next, Reached, marked, Square}
+use Rattle.verdict.specs.Breaches.{conditionNumber, InsertDeleteBreach, ChainBreach, CycleBreach, BreachOf, IsBreach, key, Lex, BreachAt, none, first}
 use Rattle.verdict.specs.Visits.{Broken, FirstAt, CycleAt}
 use Rattle.verdict.specs.Visits as visits
 use Rattle.verdict.specs.declared.Breach.{Breach}

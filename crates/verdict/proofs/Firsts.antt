@@ -1,17 +1,15 @@
 -- Breaches and their order: a first breach is the only one, none means clean, and what a search type by type has shown. Assumes nothing.
-use Prim.Native.Nat.{ℕ, zero, suc, _+_, _≤_, _<_}
+use Prim.Native.Nat.{ℕ, _+_, _≤_, _<_}
 use mathlib.Core.Path.{_≡_, refl, sym, ap, subst, _∙_}
 use mathlib.Core.Logic.{_≢_, _⊎_, inl, inr}
 use mathlib.Core.List.{List, [], _∷_}
-use native.Mathlib.Nat.{eq-or-lt-of-le}
 use native.Mathlib.Omega.{arith}
 use lib.ListN.{length, getD}
 use Rattle.table.specs.Words.{types}
-use Rattle.table.specs.Rule.{ruleAt, kindIn, IsChoice, IsStar}
 use Rattle.table.specs.Privilege.{replaceOf}
 use Rattle.table.proofs.Lists.{le-or-lt}
 use Rattle.verdict.specs.Conditions.{Clean}
-use Rattle.verdict.specs.Breaches.{conditionNumber, noBreach, InsertDeleteBreach, ChainBreach, CycleBreach, BreachOf, IsBreach, key, Lex, less, same, FirstBreach, Verdict, clean, broken, BreachAt, none, first}
+use Rattle.verdict.specs.Breaches.{conditionNumber, InsertDeleteBreach, ChainBreach, CycleBreach, BreachOf, IsBreach, key, Lex, less, same, FirstBreach, Verdict, clean, broken, BreachAt, none, first}
 use Rattle.verdict.specs.declared.Breach.{Breach}
 use Rattle.verdict.specs.declared.Condition.{Condition}
 use Rattle.verdict.specs.declared.Condition.the-variants.{None, InsertDelete, Chain, Cycle}

@@ -1,13 +1,13 @@
 -- What an allowed set forces: more from more, and a policy is clean exactly if no forced privilege is forbidden. Assumes nothing.
 use Prim.Native.Nat.{ℕ, _<_}
-use mathlib.Core.Path.{_≡_, refl}
+use mathlib.Core.Path.{refl}
 use mathlib.Core.Logic.{_≢_}
 use mathlib.Core.List.{List}
 use Rattle.table.specs.Rule.{IsChoice}
 use Rattle.table.specs.Privilege.{privileges, insertOf, deleteOf, replaceOf, Replaceable, replace}
 use Rattle.table.proofs.Privileges.{belongs-below, edit-below}
 use Rattle.verdict.specs.Marks.{Allowed, Forbidden}
-use Rattle.verdict.specs.Reached.{Plus, Step, Reached}
+use Rattle.verdict.specs.Reached.{Step, Reached}
 use Rattle.verdict.specs.Conditions.{Clean}
 use Rattle.verdict.specs.Forces.{Forces, insert-delete, chain, cycle}
 use Rattle.verdict.proofs.Closures.{plus-map}

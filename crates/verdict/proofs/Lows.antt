@@ -1,22 +1,21 @@
 -- The lowest forbidden privilege of a type's own, and below it. Assumes nothing.
-use Prim.Native.Nat.{ℕ, zero, suc, _+_, _-_, _≤_, _<_}
-use mathlib.Core.Path.{_≡_, refl, sym, ap, _∙_}
+use Prim.Native.Nat.{ℕ, suc, _+_, _-_, _≤_, _<_}
+use mathlib.Core.Path.{_≡_, _∙_}
 use mathlib.Core.Logic.{_≢_, _⊎_, inl, inr}
 use mathlib.Core.List.{List}
 use native.Mathlib.Nat.{eq-or-lt-of-le}
-use native.Mathlib.Decide.{ℕ-discrete}
 use native.Mathlib.Omega.{arith}
 use lib.ListN.{length, getD, set, take, drop, length-set, length-drop}
 use lib.Seq.{getD-set-same, getD-set-other, getD-take, getD-drop, length-take-le}
 use Rattle.table.specs.Words.{types}
 use Rattle.table.specs.Rule.{childrenAt, childAt, Child}
-use Rattle.table.specs.Privilege.{firstPrivilege, privilegesAt, privileges, Belongs}
+use Rattle.table.specs.Privilege.{firstPrivilege, privilegesAt, Belongs}
 use Rattle.table.specs.Order.{BottomUp}
 use Rattle.table.proofs.Lists.{le-or-lt}
 use Rattle.table.proofs.Privileges.{belongs-below}
 use Rattle.table.proofs.Facts.{facts, child-at}
-use Rattle.verdict.specs.Marks.{Forbidden, Policy}
-use Rattle.verdict.specs.Below.{Below, here, down, PrivilegeBelow, ForbiddenBelow, ForbiddenOwn, Low, Range, Least, OwnLows}
+use Rattle.verdict.specs.Marks.{Policy}
+use Rattle.verdict.specs.Below.{Below, here, down, ForbiddenBelow, ForbiddenOwn, Low, Range, Least, OwnLows}
 
 pub below-trans : {ws : List ℕ} {x y z : ℕ} → Below ws x y → Below ws y z → Below ws x z
 below-trans b here = b

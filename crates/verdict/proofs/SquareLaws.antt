@@ -1,8 +1,8 @@
 -- Squares of 16 rows: written row by row, closed position by position, and what they tell. Assumes nothing.
-use Prim.Native.Nat.{ℕ, _+_, _*_, _≤_, _<_}
+use Prim.Native.Nat.{ℕ, _+_, _≤_, _<_}
 use mathlib.Core.Path.{_≡_, refl, sym, ap, _∙_}
-use mathlib.Core.Logic.{_≢_, inl, inr}
-use mathlib.Core.Bool.{Bool, true, false, _||_, _&&_, or-true, or-false, true≢false}
+use mathlib.Core.Logic.{_≢_}
+use mathlib.Core.Bool.{Bool, true, false, true≢false}
 use mathlib.Core.List.{List}
 use native.Mathlib.Numerals.{add-one}
 use native.Mathlib.Omega.{arith}
@@ -18,7 +18,6 @@ use Rattle.table.specs.Check.{Accepted}
 use Rattle.table.proofs.Facts.{facts}
 use Rattle.table.specs.Privilege.{NumberedAs, privileges, replace}
 use Rattle.table.specs.declared.privilege.Numbering.{Numbering}
-use Rattle.table.proofs.Lists.{le-or-lt}
 use Rattle.table.proofs.Lowest.{told-yes, tells-as, tells-by}
 use Rattle.table.proofs.Privileges.{edit-below, replaceable-in, in-replaceable, replace-in}
 use Rattle.verdict.specs.Marks.{Allowed, Policy}

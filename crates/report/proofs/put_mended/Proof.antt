@@ -1,8 +1,8 @@
 -- A policy is mended. Assumes nothing.
 use borrow.Author.Needs.{needs}
-use Prim.Native.Nat.{ℕ, _-_, _≤_}
-use mathlib.Core.Path.{_≡_, refl, sym, ap, subst, _∙_}
-use mathlib.Core.List.{List, [], _∷_}
+use Prim.Native.Nat.{_-_, _≤_}
+use mathlib.Core.Path.{refl, sym}
+use mathlib.Core.List.{[], _∷_}
 use denote.Ref.{now}
 use native.Mathlib.Nat.{sub-zero}
 use native.Mathlib.Omega.{arith}
@@ -14,7 +14,6 @@ use Rattle.lines.specs.Text.{line}
 use Rattle.report.proofs.Results.{few, mended, mended-raisable}
 use Rattle.report.proofs.put_mended.Statement.{statement}
 use Rattle.report.proofs.put_mended.Tie as tie
-use Rattle.report.proofs.put_mended.Lts as lts
 
 slice-aggregate-mend : tie.Need-slice-aggregate-mend
 slice-aggregate-mend c = search needs

@@ -11,7 +11,6 @@ use Rattle.report.specs.Report.{marksWord, verdictWord, answerLine, five
 use Rattle.report.proofs.Results.{marks-judged, marks-refused}
 use Rattle.report.proofs.put_policy.Statement.{statement}
 use Rattle.report.proofs.put_policy.Tie as tie
-use Rattle.report.proofs.put_policy.Lts as lts
 
 judge-policy-requires : tie.Need-judge-policy-requires
 judge-policy-requires c κs = search needs

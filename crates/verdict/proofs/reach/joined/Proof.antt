@@ -1,6 +1,6 @@
 -- The bits of two rows that are joined are those of either. Assumes nothing.
 use borrow.Author.Needs.{needs}
-use mathlib.Core.Path.{refl, sym, _∙_}
+use mathlib.Core.Path.{sym, _∙_}
 use mathlib.Core.Bool.{or-false}
 use Rattle.verdict.proofs.Bits.{bit-or}
 use Rattle.verdict.proofs.reach.joined.Statement.{statement}
