@@ -6,9 +6,9 @@ use mathlib.Core.List.{List}
 use native.Mathlib.Omega.{arith}
 use lib.ListN.{length, getD, take, drop, length-drop}
 use lib.Seq.{length-take-le, getD-take, getD-drop}
-use Rattle.table.specs.Words.{types, entries, kindAt, countAt, firstAt, childList, running}
+use Rattle.table.specs.Words.{types, entries, HasRecord, kindAt, countAt, firstAt, childList, running}
 use Rattle.table.specs.Seen.{Stands}
-use Rattle.table.specs.Rule.{ruleOf, ruleAt, countIn, countOf, childrenIn, childrenAt, childAt, Child}
+use Rattle.table.specs.Rule.{ruleOf, ruleAt, firstIn, countIn, countOf, childrenIn, childrenAt, HasChildren, childAt, Child}
 use Rattle.table.specs.Check.{Laid, RightCount, Follows, Somebodys, Earlier, numberOf}
 use Rattle.table.specs.declared.check.Check.{Check}
 use Rattle.table.specs.declared.check.Check.the-variants.{Layout, Kind, Count, Stretch}
@@ -28,6 +28,20 @@ tiled ws check h e = record {
   counts = e Count (omega arith);
   follow = e Stretch (omega arith);
 }
+
+-- the record of a type stands in a run that is laid out as a table
+pub laid-record : {ws : List ℕ} {t : ℕ} → Laid ws → t < types ws → HasRecord ws t
+laid-record l h = omega (arith, l .lent, l .size)
+
+-- a rule's stretch ends no later than its record says
+rule-fits : (kind first count limit : ℕ) → first + count ≤ limit → firstIn (ruleOf kind first count) + countIn (ruleOf kind first count) ≤ limit
+unfolding ruleOf
+rule-fits zero first count limit h = omega arith
+rule-fits (suc zero) first count limit h = omega arith
+rule-fits (suc (suc zero)) first count limit h = h
+rule-fits (suc (suc (suc zero))) first count limit h = h
+rule-fits (suc (suc (suc (suc zero)))) first count limit h = h
+rule-fits (suc (suc (suc (suc (suc k))))) first count limit h = omega arith
 
 -- the stretch that a record of a right count says
 module _ (ws : List ℕ) where
@@ -71,6 +85,13 @@ module _ {ws : List ℕ} (g : Tiled ws) where
 
     children-read : childrenAt ws t ≡ take (countAt ws t) (drop (8 + 3 * types ws + firstAt ws t) ws)
     children-read = children-right ws t (g .kinds t l) (g .counts t l)
+
+    pub tiled-children : HasChildren ws t
+    unfolding ruleAt
+    tiled-children = record {
+      described = laid-record (g .laid) l;
+      listed = omega (arith, long, rule-fits (kindAt ws t) (firstAt ws t) (countAt ws t) (entries ws) fits);
+    }
 
     -- type t has as many children as its record says
     pub count-read : countOf ws t ≡ countAt ws t

@@ -5,13 +5,13 @@ use mathlib.Core.Logic.{_≢_, _⊎_, inl, inr}
 use mathlib.Core.List.{List}
 use native.Mathlib.Omega.{arith}
 use lib.ListN.{length}
-use Rattle.table.specs.Words.{types, kindAt, countAt, firstAt}
-use Rattle.table.specs.Rule.{ruleOf, ruleAt, kindIn, countOf, childrenAt, childAt, IsStar, Child}
+use Rattle.table.specs.Words.{types, HasRecord, kindAt, countAt, firstAt}
+use Rattle.table.specs.Rule.{ruleOf, ruleAt, kindIn, countOf, childrenAt, HasChildren, childAt, IsStar, Child}
 use Rattle.table.specs.Privilege.{privileges}
 use Rattle.table.specs.Check.{RightCount, Accepted}
 use Rattle.table.specs.declared.check.Check.the-variants.{Kind, Count, Bounds, Twice, Orphan, Total}
 use Rattle.table.proofs.Lists.{le-or-lt}
-use Rattle.table.proofs.Children.{Tiled, tiled, count-read, children-all}
+use Rattle.table.proofs.Children.{Tiled, tiled, laid-record, tiled-children, count-read, children-all}
 
 pub record Facts (ws : List ℕ) : Type 0 where
   pub some : 1 ≤ types ws
@@ -47,6 +47,13 @@ kind-right (suc (suc (suc (suc (suc k))))) a n h = absurd (omega arith)
 module _ {ws : List ℕ} (a : Accepted ws) where
   tiled-all : Tiled ws
   tiled-all = tiled ws Total (omega arith) (λ c l. a .passes c)
+
+  -- a type's record and its children stand in the run
+  pub has-record : {x : ℕ} → x < types ws → HasRecord ws x
+  has-record l = laid-record (tiled-all .laid) l
+
+  pub has-children : {x : ℕ} → x < types ws → HasChildren ws x
+  has-children {x} l = tiled-children tiled-all x l
 
   kind-read : (x : ℕ) → x < types ws → kindIn (ruleAt ws x) ≡ kindAt ws x
   unfolding ruleAt

@@ -4,22 +4,52 @@ use mathlib.Core.Path.{_≡_, refl, sym, ap, _∙_}
 use mathlib.Core.Logic.{_≢_, _⊎_, inl, inr}
 use mathlib.Core.Bool.{cond}
 use mathlib.Core.List.{List}
-use native.Mathlib.Nat.{mul-le-mul, mul-le-mul-right}
+use native.Mathlib.Nat.{mul-le-mul, mul-le-mul-right, mul-suc}
 use native.Mathlib.Omega.{arith}
 use borrow.Author.Tests.{lt-ltb, le-ltb}
 use lib.Dec.{ltb}
 use Rattle.table.specs.Sum.{sumBelow}
 use Rattle.table.specs.Words.{types}
 use Rattle.table.specs.Rule.{ruleAt, kindIn, countIn, countOf, IsText, IsChoice, IsStar}
-use Rattle.table.specs.Privilege.{privilegesOf, privilegesAt, firstPrivilege, privileges, Belongs, slotOf, insertOf, deleteOf, replaceOf, NumberedAs, Positions, insertIn, deleteIn, replaceIn, ReplaceableIn, Replaceable, Edit, text, insert, delete, replace, typeOf, Offers, privilegeOf}
+use Rattle.table.specs.Privilege.{privilegesOf, othersOf, choicesOf, privilegesAt, firstPrivilege, privileges, Belongs, slotOf, insertOf, deleteOf, replaceOf, NumberedAs, Positions, insertIn, deleteIn, replaceIn, rowIn, ReplaceableIn, Replaceable, Edit, text, insert, delete, replace, typeOf, Offers, privilegeOf}
 use Rattle.table.specs.declared.privilege.Numbering.{Numbering}
 use Rattle.table.specs.declared.rule.Rule.{Rule}
 use Rattle.table.specs.declared.rule.Rule.the-variants.{Empty, Text, Sequence, Choice, Star}
 use Rattle.table.proofs.Lists.{le-or-lt}
 use Rattle.table.proofs.Sum.{sum-more, sum-mono, sum-part, Falls, falls-one, falls-some}
 
-pub pairs-few : (n : ℕ) → n < 65536 → n * (n - 1) < 4294967296
-pairs-few n h = let z : n * (n - 1) ≤ 65535 * 65535 = mul-le-mul {n₂ = 65535} {m₂ = 65535} (omega arith) (omega arith) in omega arith
+-- the privileges of a rule, counted by the square of the children that can be replaced
+pub square-few : (n : ℕ) → n < 65536 → n * n ≤ 4294836225
+square-few n h = mul-le-mul {n₂ = 65535} {m₂ = 65535} (omega arith) (omega arith)
+
+pub square-more : (n : ℕ) → n ≤ n * n
+square-more zero = omega arith
+square-more (suc n) = omega (arith, mul-suc (suc n) n)
+
+pub choices-few : (r : Rule) → choicesOf r ≤ countIn r
+choices-few Empty = omega arith
+choices-few Text = omega arith
+choices-few (Sequence first n) = omega arith
+choices-few (Choice first n) = omega arith
+choices-few (Star first n) = omega arith
+
+pub others-few : (r : Rule) → othersOf r ≤ 2
+others-few Empty = omega arith
+others-few Text = omega arith
+others-few (Sequence first n) = omega arith
+others-few (Choice first n) = omega arith
+others-few (Star first n) = omega arith
+
+pairs-of : (n : ℕ) → 0 + (n * n - n) ≡ n * (n - 1)
+pairs-of zero = refl
+pairs-of (suc n) = let e : suc n - 1 ≡ n = omega arith in rw e (omega (arith, mul-suc (suc n) n))
+
+pub privileges-summed : (r : Rule) → othersOf r + (choicesOf r * choicesOf r - choicesOf r) ≡ privilegesOf r
+privileges-summed Empty = refl
+privileges-summed Text = refl
+privileges-summed (Sequence first n) = refl
+privileges-summed (Choice first n) = pairs-of n
+privileges-summed (Star first n) = refl
 
 -- the first privileges run on from type to type
 pub first-start : (ws : List ℕ) → firstPrivilege ws 0 ≡ 0
@@ -229,6 +259,13 @@ module _ (ws : List ℕ) where
 -- the numbering at a choice gives its replacements
 pub row-few : {n : Numbering} {i j : ℕ} → Positions n i j → i * (n .count - 1) ≤ 256
 row-few h = mul-le-mul {n₂ = 16} {m₂ = 16} (omega (arith, h .from, h .few)) (omega (arith, h .few))
+
+-- the replacements of the child at i stand side by side: by the kinds before i, and by those behind it one place down
+pub row-before : (n : Numbering) (i j : ℕ) → j < i → replaceIn n i j ≡ rowIn n i + j
+row-before n i j l = rw (le-ltb i j (omega arith)) (omega arith)
+
+pub row-behind : (n : Numbering) (i j : ℕ) → i ≤ j → replaceIn n i (suc j) ≡ rowIn n i + j
+row-behind n i j l = rw (lt-ltb i (suc j) (omega arith)) (omega arith)
 
 -- different pairs have different numbers
 pub replace-in-one : (n : Numbering) (i j k l : ℕ) → ReplaceableIn n i j → ReplaceableIn n k l → replaceIn n i j ≡ replaceIn n k l → (i ≡ k) × (j ≡ l)

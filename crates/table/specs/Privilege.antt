@@ -22,6 +22,21 @@ privilegesOf (Sequence first n) = 0
 privilegesOf (Choice first n) = n * (n - 1)
 privilegesOf (Star first n) = 2
 
+-- those of them that are no replacements, and the number of children that can be replaced
+abbrev pub othersOf : Rule → ℕ
+othersOf Empty = 0
+othersOf Text = 1
+othersOf (Sequence first n) = 0
+othersOf (Choice first n) = 0
+othersOf (Star first n) = 2
+
+abbrev pub choicesOf : Rule → ℕ
+choicesOf Empty = 0
+choicesOf Text = 0
+choicesOf (Sequence first n) = 0
+choicesOf (Choice first n) = n
+choicesOf (Star first n) = 0
+
 -- how many type x has
 unfoldable pub privilegesAt : List ℕ → ℕ → ℕ
 privilegesAt ws x = privilegesOf (ruleAt ws x)
@@ -77,6 +92,10 @@ pub record Positions (n : Numbering) (i j : ℕ) : Type 0 where
 
 abbrev pub replaceIn : Numbering → ℕ → ℕ → ℕ
 replaceIn n i j = n .first + slotOf (n .count) i j
+
+-- the first of the replacements of the child at i: those by the kinds before i come first, then those by the kinds behind it, with no gap
+abbrev pub rowIn : Numbering → ℕ → ℕ
+rowIn n i = n .first + i * (n .count - 1)
 
 abbrev pub insertIn : Numbering → ℕ
 insertIn n = n .first

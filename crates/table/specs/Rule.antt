@@ -1,10 +1,10 @@
 -- A type's rule and its children (document 01, "The schema table"). A type's rule is exactly one of five. A record whose kind is above 4,
 -- which check 3 refuses, counts as empty here. Assumes nothing.
-use Prim.Native.Nat.{ℕ, zero, suc, _+_, _*_, _<_}
+use Prim.Native.Nat.{ℕ, zero, suc, _+_, _*_, _≤_, _<_}
 use mathlib.Core.Path.{_≡_}
 use mathlib.Core.List.{List}
 use lib.ListN.{length, getD, take, drop}
-use Rattle.table.specs.Words.{types, kindAt, countAt, firstAt}
+use Rattle.table.specs.Words.{types, HasRecord, kindAt, countAt, firstAt}
 use Rattle.table.specs.declared.rule.Rule.{Rule}
 use Rattle.table.specs.declared.rule.Rule.the-variants.{Empty, Text, Sequence, Choice, Star}
 
@@ -57,6 +57,11 @@ childrenIn ws rule = take (countIn rule) (drop (8 + 3 * types ws + firstIn rule)
 -- the children of type t
 unfoldable pub childrenAt : List ℕ → ℕ → List ℕ
 childrenAt ws t = childrenIn ws (ruleAt ws t)
+
+-- its record and its children stand in the run
+pub record HasChildren (ws : List ℕ) (t : ℕ) : Type 0 where
+  pub described : HasRecord ws t
+  pub listed : 8 + 3 * types ws + firstIn (ruleAt ws t) + countIn (ruleAt ws t) ≤ length ws
 
 -- how many children type t has, and the one at position i
 unfoldable pub countOf : List ℕ → ℕ → ℕ

@@ -1,9 +1,9 @@
 -- The words of a schema table (document 01, "The schema table"): a header of counts and offsets, then three words for each type, then the
 -- child list. Every definition reads the words of the table, and 0 past their end. Assumes nothing.
-use Prim.Native.Nat.{ℕ, _+_, _*_, _<_}
+use Prim.Native.Nat.{ℕ, _+_, _*_, _≤_, _<_}
 use mathlib.Core.Path.{_≡_}
 use mathlib.Core.List.{List}
-use lib.ListN.{getD, take, drop}
+use lib.ListN.{length, getD, take, drop}
 use Rattle.table.specs.Sum.{sumBelow}
 
 -- r is x, a number below the limit
@@ -26,6 +26,10 @@ entries ws = getD ws 5 0
 -- word k of the record of type t
 abbrev pub recordWord : List ℕ → ℕ → ℕ → ℕ
 recordWord ws t k = getD ws (8 + 3 * t + k) 0
+
+-- the record of type t stands in the run
+abbrev pub HasRecord : List ℕ → ℕ → Type 0
+HasRecord ws t = 8 + 3 * t + 3 ≤ length ws
 
 abbrev pub kindAt : List ℕ → ℕ → ℕ
 kindAt ws t = recordWord ws t 0

@@ -82,19 +82,18 @@ fn types_pass(words: &[u16], stamps: &mut [u16; 256]) -> bool
     word_at(words, 7) == sum
 }
 
-// Has every type but 0 a stamp?
+// Has every type but 0 a stamp? All are looked at, many at a time: the loop is not left early.
 fn are_stamped(stamps: &[u16; 256], e: usize) -> bool
     requires { ⌜ e ≤ 256 ⌝ }
     ensures { λ r. ⌜ Tells ((x : ℕ) → x < e → x ≢ 0 → getD (now (stamps .entry)) x 0 ≢ 0) r ⌝ }
 {
+    let mut all = true;
     let mut x = 1;
     while x < e {
-        if stamps[x] == 0 {
-            return false;
-        }
+        all = all & (stamps[x] != 0);
         x += 1;
     }
-    true
+    all
 }
 
 // Does the table pass every check? One pass over its types. Yes is right; where it says no, the checks are searched by number.

@@ -123,7 +123,7 @@ pub fn right_count(kind: usize, count: usize) -> bool
 
 // The running index at t, read off the type before, whose children follow on.
 fn running_index(words: &[u16], t: usize) -> usize
-    requires { ⌜ (t ≤ types (now words)) × ((q : ℕ) → q < t → Follows (now words) q) ⌝ }
+    requires { ⌜ Laid (now words) × (t ≤ types (now words)) × ((q : ℕ) → q < t → Follows (now words) q) ⌝ }
     ensures { λ r. ⌜ r ≡ running (now (words .entry)) t ⌝ }
 {
     if t == 0 {
@@ -133,7 +133,7 @@ fn running_index(words: &[u16], t: usize) -> usize
 }
 
 fn follows(words: &[u16], t: usize) -> bool
-    requires { ⌜ (t ≤ types (now words)) × ((q : ℕ) → q < t → Follows (now words) q) ⌝ }
+    requires { ⌜ Laid (now words) × (t ≤ types (now words)) × ((q : ℕ) → q < t → Follows (now words) q) ⌝ }
     ensures { λ r. ⌜ Tells (Follows (now (words .entry)) t) r ⌝ }
 {
     let index = running_index(words, t);
@@ -215,6 +215,7 @@ pub fn children_seen(words: &[u16]) -> [u8; 256]
 }
 
 fn is_counted(words: &[u16]) -> bool
+    requires { ⌜ Laid (now words) ⌝ }
     ensures { λ r. ⌜ Tells (Counted (now (words .entry))) r ⌝ }
 {
     let v = privileges(words);

@@ -2,39 +2,62 @@
 ghost use mathlib.Core.Path.{_≡_};
 ghost use Prim.Native.Nat.{_≤_, _<_};
 ghost use lib.ListN.{length};
-ghost use Rattle.table.specs.Words.{Within, types};
+ghost use Rattle.table.specs.Words.{Within, types, HasRecord};
 ghost use Rattle.table.specs.Rule.{countIn};
-ghost use Rattle.table.specs.Privilege.{privilegesOf, privilegesAt, firstPrivilege, privileges, Firsts, NumberedAs, Positions, insertIn, deleteIn, replaceIn, ReplaceableIn};
-ghost use Rattle.table.specs.Check.{Accepted};
+ghost use Rattle.table.specs.Privilege.{privilegesOf, othersOf, choicesOf, privilegesAt, firstPrivilege, privileges, Firsts, NumberedAs, Positions, insertIn, deleteIn, replaceIn, rowIn, ReplaceableIn};
+ghost use Rattle.table.specs.Check.{Laid, Accepted};
 ghost use Rattle.table.specs.Lowest.{Tells};
 use super::rule::Rule;
 use super::rule::count_in;
 use super::rule::rule_at;
-use super::words::lesser;
 use super::words::types;
 
-pub(crate) fn privileges_of(rule: Rule) -> usize
-    requires { ⌜ countIn rule < 65536 ⌝ }
-    ensures { λ r. ⌜ Within 4294967296 (privilegesOf rule) r ⌝ }
+// How many privileges of a rule are no replacements.
+fn others_of(rule: Rule) -> usize
+    ensures { λ r. ⌜ r ≡ othersOf rule ⌝ }
 {
     match rule {
         Rule::Empty => 0,
         Rule::Text => 1,
         Rule::Sequence { first: _, count: _ } => 0,
-        Rule::Choice { first: _, count } => { if count == 0 { 0 } else { count * (count - 1) } }
+        Rule::Choice { first: _, count: _ } => 0,
         Rule::Star { first: _, count: _ } => 2,
     }
 }
 
+// How many children of a rule can be replaced.
+fn choices_of(rule: Rule) -> usize
+    ensures { λ r. ⌜ r ≡ choicesOf rule ⌝ }
+{
+    match rule {
+        Rule::Empty => 0,
+        Rule::Text => 0,
+        Rule::Sequence { first: _, count: _ } => 0,
+        Rule::Choice { first: _, count } => count,
+        Rule::Star { first: _, count: _ } => 0,
+    }
+}
+
+// How many privileges a rule has. Both parts are looked up and not branched to: tables mix their kinds.
+pub(crate) fn privileges_of(rule: Rule) -> usize
+    requires { ⌜ countIn rule < 65536 ⌝ }
+    ensures { λ r. ⌜ Within 4294967296 (privilegesOf rule) r ⌝ }
+{
+    let n = choices_of(rule);
+    others_of(rule) + (n * n - n)
+}
+
 // How many privileges type x has.
 pub fn privileges_at(words: &[u16], x: usize) -> usize
+    requires { ⌜ HasRecord (now words) x ⌝ }
     ensures { λ r. ⌜ Within 4294967296 (privilegesAt (now (words .entry)) x) r ⌝ }
 {
     privileges_of(rule_at(words, x))
 }
 
 // V, the number of privileges.
-pub fn privileges(words: &[u16]) -> usize
+pub(crate) fn privileges(words: &[u16]) -> usize
+    requires { ⌜ Laid (now words) ⌝ }
     ensures { λ r. ⌜ Within 281474976710656 (privileges (now (words .entry))) r ⌝ }
 {
     let n = types(words);
@@ -49,14 +72,14 @@ pub fn privileges(words: &[u16]) -> usize
 
 // Writes the first privilege of each type of a table.
 pub fn first_privileges(words: &[u16], firsts: &mut [u16; 256])
-    requires { ⌜ length (now firsts) ≡ 256 ⌝ }
-    ensures { λ _. ⌜ (Accepted (now (words .entry)) → Firsts (now (words .entry)) (now (firsts .exit))) ⌝ }
+    requires { ⌜ Accepted (now words) × (length (now firsts) ≡ 256) ⌝ }
+    ensures { λ _. ⌜ Firsts (now (words .entry)) (now (firsts .exit)) ⌝ }
 {
-    let e = lesser(types(words), 256);
+    let e = types(words);
     let mut first = 0;
     let mut x = 0;
     while x < e {
-        firsts[x] = (first % 65536) as u16;
+        firsts[x] = first as u16;
         first += privileges_at(words, x);
         x += 1;
     }
@@ -70,7 +93,8 @@ pub struct Numbering {
 
 // The numbering at type x of a table, whose first privilege is given.
 pub fn numbers_at(words: &[u16], x: usize, first: usize) -> Numbering
-    ensures { λ r. ⌜ (Accepted (now (words .entry)) → x < types (now (words .entry)) → first ≡ firstPrivilege (now (words .entry)) x → NumberedAs (now (words .entry)) x r) ⌝ }
+    requires { ⌜ Accepted (now words) × (x < types (now words)) × (first ≡ firstPrivilege (now words) x) ⌝ }
+    ensures { λ r. ⌜ NumberedAs (now (words .entry)) x r ⌝ }
 {
     Numbering {
         first: first,
@@ -107,11 +131,19 @@ pub fn is_replaceable(n: Numbering, i: usize, j: usize) -> bool
     i != j
 }
 
+// The first of the privileges to replace the child at i.
+pub fn row_at(n: Numbering, i: usize) -> usize
+    requires { ⌜ Positions n i i ⌝ }
+    ensures { λ r. ⌜ Within 8192 (rowIn n i) r ⌝ }
+{
+    n.first + i * (n.count - 1)
+}
+
 // The privilege to replace the child at i by the kind at j.
 pub fn replacement(n: Numbering, i: usize, j: usize) -> usize
     requires { ⌜ Positions n i j ⌝ }
     ensures { λ r. ⌜ r ≡ replaceIn n i j ⌝ }
 {
-    let row = n.first + i * (n.count - 1);
+    let row = row_at(n, i);
     if i < j { row + (j - 1) } else { row + j }
 }

@@ -1,8 +1,8 @@
 // A type's rule and its children. Contracts cite specs/Rule.
 ghost use mathlib.Core.Path.{_≡_};
-ghost use Rattle.table.specs.Rule.{ruleOf, ruleAt, firstIn, countIn, ReadAs, childrenAt};
+ghost use Rattle.table.specs.Words.{HasRecord};
+ghost use Rattle.table.specs.Rule.{ruleOf, ruleAt, firstIn, countIn, ReadAs, childrenAt, HasChildren};
 use super::words::record_word;
-use super::words::stretch;
 use super::words::types;
 
 // A type's rule, with the index of its first child in the child list and the number of its children.
@@ -29,6 +29,7 @@ pub(crate) fn rule_of(kind: usize, first: usize, count: usize) -> Rule
 
 // The rule of type t.
 pub fn rule_at(words: &[u16], t: usize) -> Rule
+    requires { ⌜ HasRecord (now words) t ⌝ }
     ensures { λ r. ⌜ ReadAs (ruleAt (now (words .entry)) t) r ⌝ }
 {
     rule_of(
@@ -65,10 +66,11 @@ pub fn count_in(rule: Rule) -> usize
 
 // The children of type t, as a part of the words.
 pub fn children(words: &[u16], t: usize) -> &[u16]
+    requires { ⌜ HasChildren (now words) t ⌝ }
     ensures { λ r. ⌜ now r ≡ childrenAt (now (words .entry)) t ⌝ }
 {
     let rule = rule_at(words, t);
     let a = 8 + 3 * types(words) + first_in(rule);
     let b = a + count_in(rule);
-    stretch(words, a, b)
+    &words[a..b]
 }

@@ -1,9 +1,9 @@
-// Reading a lent run of words, for every place: past the end stands 0, and a stretch that runs over the end is shorter.
-// Contracts cite specs/Words.
+// Reading a lent run of words, for every place: past the end stands 0, and a stretch that runs over the end is shorter. A type's record is read
+// where it is known to be there. Contracts cite specs/Words.
 ghost use mathlib.Core.Path.{_≡_};
 ghost use Prim.Native.Nat.{_-_, _<_, min};
 ghost use lib.ListN.{take, drop, getD};
-ghost use Rattle.table.specs.Words.{Widened, types, entries, recordWord};
+ghost use Rattle.table.specs.Words.{Widened, types, entries, recordWord, HasRecord};
 
 fn wide(x: u16) -> usize
     ensures { λ r. ⌜ Widened x r ⌝ }
@@ -34,13 +34,10 @@ pub fn entries(words: &[u16]) -> usize
 
 // Word k of the record of type t: its kind, its number of children, the index of its first child.
 pub fn record_word(words: &[u16], t: usize, k: usize) -> usize
-    requires { ⌜ k < 3 ⌝ }
+    requires { ⌜ HasRecord (now words) t × (k < 3) ⌝ }
     ensures { λ r. ⌜ Widened (recordWord (now (words .entry)) t k) r ⌝ }
 {
-    if words.len() / 3 < t {
-        return 0;
-    }
-    word_at(words, 8 + 3 * t + k)
+    wide(words[8 + 3 * t + k])
 }
 
 // The lesser of two numbers.

@@ -9,7 +9,7 @@ use lib.ListN.{getD}
 use Rattle.table.specs.Words.{types}
 use Rattle.table.specs.Privilege.{firstPrivilege}
 use Rattle.table.specs.Order.{BottomUp}
-use Rattle.table.proofs.Facts.{facts}
+use Rattle.table.proofs.Facts.{facts, has-children}
 use Rattle.table.proofs.Privileges.{first-within}
 use Rattle.completion.proofs.Descent.{Descended, descent-start, descent-told, descent-more, descent-all}
 use Rattle.completion.proofs.pass.complete_all.Statement.{statement}
@@ -53,7 +53,7 @@ module _ (c : tie.In-loop Inv-loop μ-loop) where
   type = order-up ordered .inside (c .before .loop .k - 1) place
 
   first-is : getD (c .before .before .before .first-privileges .last .1 .0) x 0 ≡ firstPrivilege (now (begin .args .words)) x
-  first-is = c .before .before .before .first-privileges .ensures (begin .pre .0 .accepted) x type
+  first-is = c .before .before .before .first-privileges .ensures x type
 
   first-low : firstPrivilege (now (begin .args .words)) x ≤ 4096
   first-low = omega (arith, first-within (now (begin .args .words)) x (omega (arith, type)), facts (begin .pre .0 .accepted) .privileges-few)
@@ -66,7 +66,7 @@ bottom-up-requires : tie.Need-bottom-up-requires Inv-loop μ-loop
 bottom-up-requires c κs = refl
 
 first-privileges-requires : tie.Need-first-privileges-requires Inv-loop μ-loop
-first-privileges-requires c κs = refl
+first-privileges-requires c κs = (start (c .before) .pre .0 .accepted, refl)
 
 types-requires : tie.Need-types-requires Inv-loop μ-loop
 types-requires c κs = search needs
@@ -93,7 +93,7 @@ cast-complete-type : tie.Need-cast-complete-type Inv-loop μ-loop
 cast-complete-type c = omega (arith, first-is c, first-low c)
 
 children-requires : tie.Need-children-requires Inv-loop μ-loop
-children-requires c κs = search needs
+children-requires c κs = has-children (begin c .pre .0 .accepted) (type c)
 
 complete-type-requires : tie.Need-complete-type-requires Inv-loop μ-loop
 complete-type-requires c κs =

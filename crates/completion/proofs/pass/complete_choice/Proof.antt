@@ -8,12 +8,10 @@ use Rattle.completion.proofs.pass.complete_choice.Tie as tie
 
 -- the numbering is that of the choice
 numbered : (c : tie.After-numbers-at) → let a = c .before .before .before .before .before .args in NumberedAs (now (a .words)) (a .x) (c .numbers-at .result)
-numbered c =
-    let visit = c .before .before .before .before .before .pre .0 in
-    c .numbers-at .ensures (visit .policy .accepted) (visit .type) (visit .first-is)
+numbered c = c .numbers-at .ensures
 
 numbers-at-requires : tie.Need-numbers-at-requires
-numbers-at-requires c κs = search needs
+numbers-at-requires c κs = let visit = c .before .before .before .before .pre .0 in (visit .policy .accepted, visit .type, visit .first-is)
 
 reached-requires : tie.Need-reached-requires
 reached-requires c κs =

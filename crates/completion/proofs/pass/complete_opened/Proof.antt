@@ -2,6 +2,7 @@
 use mathlib.Core.Logic.{inl}
 use native.Mathlib.Omega.{arith}
 use borrow.Author.Needs.{needs}
+use Rattle.table.proofs.Facts.{has-record}
 use Rattle.completion.proofs.Openings.{kids-as}
 use Rattle.completion.proofs.Passing.{opened-own, visit-small, visit-end, visit-fits}
 use Rattle.completion.proofs.pass.complete_opened.Statement.{statement}
@@ -11,7 +12,7 @@ open-all-requires : tie.Need-open-all-requires
 open-all-requires c κs = let visit = c .before .before .before .before .before .pre .0 in (visit .size, visit-small visit)
 
 privileges-at-requires : tie.Need-privileges-at-requires
-privileges-at-requires c κs = search needs
+privileges-at-requires c κs = let visit = c .before .before .before .before .before .before .before .pre .0 in has-record (visit .policy .accepted) (visit .type)
 
 add-write-range : tie.Need-add-write-range
 add-write-range c =

@@ -4,6 +4,7 @@ use native.Mathlib.Omega.{arith}
 use borrow.Author.Needs.{needs}
 use denote.Ref.{now}
 use Rattle.table.specs.Privilege.{NumberedAs}
+use Rattle.table.proofs.Facts.{has-record}
 use Rattle.table.proofs.Lowest.{told-yes, told-no}
 use Rattle.completion.proofs.Openings.{kids-none}
 use Rattle.completion.proofs.Passing.{plain-own, star-passes, both-star, star-both, star-kids, visit-small, visit-end, visit-fits}
@@ -12,12 +13,10 @@ use Rattle.completion.proofs.pass.complete_star.Tie as tie
 
 -- the numbering is that of the star
 numbered : (c : tie.After-numbers-at) → let a = c .before .before .before .before .before .args in NumberedAs (now (a .words)) (a .x) (c .numbers-at .result)
-numbered c =
-    let visit = c .before .before .before .before .before .pre .0 in
-    c .numbers-at .ensures (visit .policy .accepted) (visit .type) (visit .first-is)
+numbered c = c .numbers-at .ensures
 
 numbers-at-requires : tie.Need-numbers-at-requires
-numbers-at-requires c κs = search needs
+numbers-at-requires c κs = let visit = c .before .before .before .before .pre .0 in (visit .policy .accepted, visit .type, visit .first-is)
 
 both-allowed-requires : tie.Need-both-allowed-requires
 both-allowed-requires c κs = numbered c .low
@@ -26,7 +25,7 @@ open-all-requires : tie.Need-open-all-requires
 open-all-requires c κs = let visit = c .before .before .before .before .before .before .before .before .pre .0 in (visit .size, visit-small visit)
 
 privileges-at-requires : tie.Need-privileges-at-requires
-privileges-at-requires c κs = search needs
+privileges-at-requires c κs = let visit = c .before .before .before .before .before .before .before .before .pre .0 in has-record (visit .policy .accepted) (visit .type)
 
 add-write-range : tie.Need-add-write-range
 add-write-range c =

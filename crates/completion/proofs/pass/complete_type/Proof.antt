@@ -9,7 +9,7 @@ use denote.Ref.{now}
 use Rattle.table.specs.Rule.{ruleAt, kindIn}
 use Rattle.table.specs.declared.rule.Rule.{Rule}
 use Rattle.table.specs.declared.rule.Rule.the-variants.{Empty, Text, Sequence, Choice, Star}
-use Rattle.table.proofs.Facts.{facts}
+use Rattle.table.proofs.Facts.{facts, has-record}
 use Rattle.table.proofs.Lowest.{told-yes, told-no}
 use Rattle.verdict.specs.Marks.{Allowed}
 use Rattle.completion.specs.Opens.{Opened}
@@ -63,7 +63,7 @@ returns : tie.Need-returns
 returns c = search needs
 
 rule-at-requires : tie.Need-rule-at-requires
-rule-at-requires c κs = search needs
+rule-at-requires c κs = let visit = c .before .before .before .before .before .before .pre in has-record (visit .policy .accepted) (visit .type)
 
 enum-told : tie.Need-enum-told
 enum-told c = search needs
@@ -86,7 +86,7 @@ complete-star-requires c κs =
     (start .pre, shut (read .before), record { type = start .pre .type; kind-is = kind read (told .enum-told2 .given .1) })
 
 privileges-at-requires : tie.Need-privileges-at-requires
-privileges-at-requires c κs = search needs
+privileges-at-requires c κs = let visit = c .before .before .before .before .before .before .before .before .before .pre in has-record (visit .policy .accepted) (visit .type)
 
 add-write-range : tie.Need-add-write-range
 add-write-range c =

@@ -3,7 +3,7 @@ use borrow.Author.Needs.{needs}
 use Rattle.mending.proofs.Staying.{Mending, lows-spoilt, mending-on, mending-done, mending-few}
 use Rattle.mending.specs.Taking.{start}
 use Rattle.verdict.proofs.Firsts.{clean-start}
-use Rattle.table.proofs.Facts.{facts}
+use Rattle.table.proofs.Facts.{facts, has-record}
 use Rattle.table.proofs.Privileges.{first-start, first-next, first-within}
 use Rattle.table.specs.Privilege.{firstPrivilege}
 use Rattle.table.specs.Words.{types}
@@ -50,7 +50,9 @@ add-count : tie.Need-add-count Inv-loop μ-loop
 add-count c = omega (arith, mending-few (onward (c .before .before)))
 
 privileges-at-requires : tie.Need-privileges-at-requires Inv-loop μ-loop
-privileges-at-requires c κs = search needs
+privileges-at-requires c κs =
+    let loop = c .before .before .before .before .before in
+    has-record (loop .before .before .before .before .before .before .before .before .pre .accepted) (is-type loop)
 
 add-first : tie.Need-add-first Inv-loop μ-loop
 add-first c =

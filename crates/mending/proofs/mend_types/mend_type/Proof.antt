@@ -2,6 +2,7 @@
 use Rattle.mending.proofs.Next.{clean-on}
 use Rattle.mending.specs.Taking.{start}
 use Rattle.verdict.proofs.Breached.{plain-none}
+use Rattle.table.proofs.Facts.{has-record, has-children}
 use Rattle.table.specs.declared.rule.Rule.{Rule}
 use Rattle.table.specs.Rule.{ruleAt, kindIn}
 use mathlib.Core.Path.{_≡_, sym, ap, _∙_}
@@ -16,7 +17,7 @@ kind : (c : tie.After-rule-at) {r : Rule} → c .rule-at .result ≡ r → kindI
 kind c e = ap kindIn (sym (c .rule-at .ensures .is) ∙ e)
 
 rule-at-requires : tie.Need-rule-at-requires
-rule-at-requires c κs = search needs
+rule-at-requires c κs = let p = c .before .before .pre in has-record (p .0 .accepted) (p .2)
 
 enum-told : tie.Need-enum-told
 enum-told c = search needs
@@ -31,10 +32,10 @@ enum-told-4 : tie.Need-enum-told-4
 enum-told-4 c = search needs
 
 children-requires : tie.Need-children-requires
-children-requires c κs = search needs
+children-requires c κs = let p = c .before .before .before .before .before .before .pre in has-children (p .0 .accepted) (p .2)
 
 numbers-at-requires : tie.Need-numbers-at-requires
-numbers-at-requires c κs = search needs
+numbers-at-requires c κs = let p = c .before .before .before .before .before .before .before .pre in (p .0 .accepted, p .2, p .4)
 
 mend-choice-requires : tie.Need-mend-choice-requires
 mend-choice-requires c κs =
@@ -46,7 +47,7 @@ mend-choice-requires c κs =
         type = p .2;
         clean = p .3;
         kids-are = c .before .children .ensures;
-        numbered = c .numbers-at .ensures (p .0 .accepted) (p .2) (p .4);
+        numbered = c .numbers-at .ensures;
       },
       record { type = p .2; kind-is = kind (c .before .before .before .before .before) (c .before .before .before .enum-told4 .given .1) },
     )
@@ -55,10 +56,10 @@ enum-told-5 : tie.Need-enum-told-5
 enum-told-5 c = search needs
 
 children-requires-2 : tie.Need-children-requires-2
-children-requires-2 c κs = search needs
+children-requires-2 c κs = let p = c .before .before .before .before .before .before .pre in has-children (p .0 .accepted) (p .2)
 
 numbers-at-requires-2 : tie.Need-numbers-at-requires-2
-numbers-at-requires-2 c κs = search needs
+numbers-at-requires-2 c κs = let p = c .before .before .before .before .before .before .before .pre in (p .0 .accepted, p .2, p .4)
 
 mend-star-requires : tie.Need-mend-star-requires
 mend-star-requires c κs =
@@ -70,7 +71,7 @@ mend-star-requires c κs =
         type = p .2;
         clean = p .3;
         kids-are = c .before .children2 .ensures;
-        numbered = c .numbers-at2 .ensures (p .0 .accepted) (p .2) (p .4);
+        numbered = c .numbers-at2 .ensures;
       },
       record { type = p .2; kind-is = kind (c .before .before .before .before .before) (c .before .before .before .enum-told5 .given .1) },
     )

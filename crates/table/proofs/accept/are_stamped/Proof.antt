@@ -1,32 +1,30 @@
--- The loop has passed no type without a stamp. Assumes nothing.
+-- The flag tells of the types passed, type 0 apart. Assumes nothing.
 use borrow.Author.Needs.{needs}
-use borrow.Author.Count.{below-more}
 use native.Mathlib.Omega.{arith}
+use denote.Ref.{now}
 use lib.ListN.{getD}
-use mathlib.Core.Logic.{_≢_}
+use mathlib.Core.Path.{_≡_}
+use mathlib.Core.Logic.{_≢_, _⊎_, inl, inr}
 use Prim.Native.Nat.{ℕ, _-_, _≤_, _<_}
+use Rattle.table.specs.Lowest.{Tells}
+use Rattle.table.proofs.Lowest.{tells-as, tells-ne-as, tells-all-more}
 use Rattle.table.proofs.accept.are_stamped.Statement.{statement}
 use Rattle.table.proofs.accept.are_stamped.Tie as tie
 
 abbrev Inv-loop : tie.InvT-loop
-Inv-loop stamps e x₀ x = (1 ≤ x) × ((k : ℕ) → k < x → k ≢ 0 → getD stamps k 0 ≢ 0)
+Inv-loop stamps e all₀ x₀ all x = (1 ≤ x) × ((x ≤ e) ⊎ (x ≡ 1)) × Tells ((k : ℕ) → k < x → k ≢ 0 → getD stamps k 0 ≢ 0) all
 
 abbrev μ-loop : tie.MeasureT-loop
-μ-loop stamps e x₀ x = e - x
+μ-loop stamps e all₀ x₀ all x = e - x
 
 loop-holds : tie.Need-loop-holds Inv-loop μ-loop
-loop-holds c = (omega arith, λ k l d. absurd (omega arith))
+loop-holds c = (omega arith, inr (omega arith), λ k l d. absurd (omega arith))
 
-mul-if1 : tie.Need-mul-if1 Inv-loop μ-loop
-mul-if1 c = search needs
+mul-all : tie.Need-mul-all Inv-loop μ-loop
+mul-all c = search needs
 
-element-copy-out-if1 : tie.Need-element-copy-out-if1 Inv-loop μ-loop
-element-copy-out-if1 c = search needs
-
-returns : tie.Need-returns Inv-loop μ-loop
-returns c =
-    let at = c .before .before .before in
-    λ h. h (at .loop .x) (c .before .before .loop-test .taken) (omega (arith, at .loop .inv .0)) (c .if1 .taken)
+element-copy-out-all : tie.Need-element-copy-out-all Inv-loop μ-loop
+element-copy-out-all c = search needs
 
 add-x : tie.Need-add-x Inv-loop μ-loop
 add-x c = search needs
@@ -36,11 +34,19 @@ loop-less c = search needs
 
 loop-again : tie.Need-loop-again Inv-loop μ-loop
 loop-again c =
-    let at = c .before .before .before in
-    (omega arith, below-more _ _ (at .loop .inv .1) (λ d. c .if1 .left))
+    let at = c .before .before .loop in
+    let stamps = now (c .before .before .before .args .stamps) in
+    let one = tells-ne-as (at .x ≢ 0 → getD stamps (at .x) 0 ≢ 0) (getD stamps (at .x) 0) 0 (λ d z. d) (λ f. f (omega (arith, at .inv .0))) in
+    (omega arith, inl (omega (arith, c .before .loop-test .taken)), tells-all-more (λ k. k ≢ 0 → getD stamps k 0 ≢ 0) (at .x) (at .all) _ (at .inv .2) one)
 
-returns-2 : tie.Need-returns-2 Inv-loop μ-loop
-returns-2 c = λ x l. c .before .loop .inv .1 x (omega (arith, c .loop-test .left))
+returns : tie.Need-returns Inv-loop μ-loop
+returns c =
+    let at = c .before .loop in
+    let end = c .loop-test .left in
+    tells-as (λ f x l. f x (omega (arith, end)))
+    (λ f k l d. elim (at .inv .1) [ inl h ↦ f k (omega (arith, h, l)) d | inr h ↦ absurd (d (omega (arith, h, l))) ])
+    (at .all)
+    (at .inv .2)
 
 pub are-stamped-spec : {M : Type 1} → statement M
 are-stamped-spec =
@@ -49,10 +55,9 @@ are-stamped-spec =
     Inv-loop
     μ-loop
     loop-holds
-    mul-if1
-    element-copy-out-if1
-    returns
+    mul-all
+    element-copy-out-all
     add-x
     loop-less
     loop-again
-    returns-2)
+    returns)

@@ -1,7 +1,13 @@
 -- By the cases of the check, each from what its own function tells. Assumes nothing.
 use Rattle.table.proofs.Lowest.{tells-le, tells-as}
-use Rattle.table.proofs.Children.{tiled, stands-somebodys, somebodys-stands}
-use Rattle.table.specs.declared.check.Check.the-variants.{Layout, Orphan}
+use Rattle.table.proofs.Children.{tiled, laid-record, tiled-children, stands-somebodys, somebodys-stands}
+use Rattle.table.specs.Words.{types}
+use Rattle.table.specs.Rule.{HasChildren}
+use Rattle.table.specs.Check.{Laid, numberOf, Asked}
+use Rattle.table.specs.declared.check.Check.{Check}
+use Rattle.table.specs.declared.check.Check.the-variants.{Layout, Bounds, Twice, Orphan}
+use Prim.Native.Nat.{ℕ, _<_}
+use mathlib.Core.List.{List}
 use denote.Ref.{now}
 use lib.ListN.{getD}
 use lib.Dec.{eqb}
@@ -10,6 +16,13 @@ use mathlib.Core.Logic.{inl}
 use borrow.Author.Needs.{needs}
 use Rattle.table.proofs.check.holds_at.Statement.{statement}
 use Rattle.table.proofs.check.holds_at.Tie as tie
+
+-- a check behind the second looks at a run that is laid out as a table, and one behind the fifth at one whose children are all there
+laid : {ws seen : List ℕ} {check : Check} {p : ℕ} → 2 < numberOf check → Asked ws seen check p → Laid ws
+laid h known = known .earlier Layout h 0 (omega arith)
+
+listed : {ws seen : List ℕ} (check : Check) {p : ℕ} → 5 < numberOf check → p < types ws → Asked ws seen check p → HasChildren ws p
+listed check h l known = tiled-children (tiled _ check h (known .earlier)) _ l
 
 enum-told : tie.Need-enum-told
 enum-told c = search needs
@@ -27,16 +40,22 @@ enum-told-3 : tie.Need-enum-told-3
 enum-told-3 c = search needs
 
 record-word-requires : tie.Need-record-word-requires
-record-word-requires c κs = search needs
+record-word-requires c κs =
+    let known = rw (c .enum-told3 .given .1) at (c .before .before .before .pre) in
+    (laid-record (laid (omega arith) known) (known .within), omega arith)
 
 enum-told-4 : tie.Need-enum-told-4
 enum-told-4 c = search needs
 
 record-word-requires-2 : tie.Need-record-word-requires-2
-record-word-requires-2 c κs = search needs
+record-word-requires-2 c κs =
+    let known = rw (c .enum-told4 .given .1) at (c .before .before .before .pre) in
+    (laid-record (laid (omega arith) known) (known .within), omega arith)
 
 record-word-requires-3 : tie.Need-record-word-requires-3
-record-word-requires-3 c κs = search needs
+record-word-requires-3 c κs =
+    let known = rw (c .before .enum-told4 .given .1) at (c .before .before .before .before .pre) in
+    (laid-record (laid (omega arith) known) (known .within), omega arith)
 
 right-count-requires : tie.Need-right-count-requires
 right-count-requires c κs = search needs
@@ -47,13 +66,15 @@ enum-told-5 c = search needs
 follows-requires : tie.Need-follows-requires
 follows-requires c κs =
     let known = rw (c .enum-told5 .given .1) at (c .before .before .before .pre) in
-    (omega (arith, known .within), known .before)
+    (laid (omega arith) known, omega (arith, known .within), known .before)
 
 enum-told-6 : tie.Need-enum-told-6
 enum-told-6 c = search needs
 
 children-requires : tie.Need-children-requires
-children-requires c κs = search needs
+children-requires c κs =
+    let known = rw (c .enum-told6 .given .1) at (c .before .before .before .pre) in
+    listed Bounds (omega arith) (known .within) known
 
 types-requires : tie.Need-types-requires
 types-requires c κs = search needs
@@ -65,7 +86,9 @@ enum-told-7 : tie.Need-enum-told-7
 enum-told-7 c = search needs
 
 children-requires-2 : tie.Need-children-requires-2
-children-requires-2 c κs = search needs
+children-requires-2 c κs =
+    let known = rw (c .enum-told7 .given .1) at (c .before .before .before .pre) in
+    listed Twice (omega arith) (known .within) known
 
 differ-requires : tie.Need-differ-requires
 differ-requires c κs = search needs
@@ -85,7 +108,7 @@ enum-told-9 : tie.Need-enum-told-9
 enum-told-9 c = search needs
 
 is-counted-requires : tie.Need-is-counted-requires
-is-counted-requires c κs = search needs
+is-counted-requires c κs = laid (omega arith) (rw (c .enum-told9 .given .1) at (c .before .before .before .pre))
 
 returns-2 : tie.Need-returns-2
 returns-2 c = rw (c .before .enum-told .given .1) (c .is-headed .ensures)

@@ -33,7 +33,7 @@ returns-2 c =
     let a = start .args in
     let prior = a .t - 1 in
     let is : prior + 1 ≡ a .t = omega arith in
-    rw (c .before .record-word .ensures .is, c .record-word2 .ensures .is) (rw is at (running-next _ prior (omega arith) (start .pre .1 prior (omega arith))))
+    rw (c .before .record-word .ensures .is, c .record-word2 .ensures .is) (rw is at (running-next _ prior (omega arith) (start .pre .2 prior (omega arith))))
 
 pub running-index-spec : {M : Type 1} → statement M
 running-index-spec =

@@ -1,28 +1,21 @@
--- By whether j stands after i; a row is at most 256. Assumes nothing.
-use Rattle.table.proofs.Privileges.{row-few}
+-- By whether j stands after i. Assumes nothing.
 use borrow.Author.Tests.{lt-ltb, le-ltb}
 use native.Mathlib.Omega.{arith}
 use borrow.Author.Needs.{needs}
 use Rattle.table.proofs.privilege.replacement.Statement.{statement}
 use Rattle.table.proofs.privilege.replacement.Tie as tie
 
-sub-row : tie.Need-sub-row
-sub-row c = search needs
-
-mul-row : tie.Need-mul-row
-mul-row c = omega (arith, row-few (c .before .pre))
-
-add-row : tie.Need-add-row
-add-row c = omega (arith, row-few (c .before .before .pre), c .before .before .pre)
+row-at-requires : tie.Need-row-at-requires
+row-at-requires c κs = let p = c .pre in record { low = p .low; few = p .few; from = p .from; to = p .from }
 
 sub-result : tie.Need-sub-result
 sub-result c = search needs
 
 add-result : tie.Need-add-result
-add-result c = omega (arith, row-few (c .before .before .before .pre), c .before .before .before .pre)
+add-result c = search needs
 
 add-result-2 : tie.Need-add-result-2
-add-result-2 c = omega (arith, row-few (c .before .before .before .pre), c .before .before .before .pre)
+add-result-2 c = search needs
 
 returns : tie.Need-returns
 returns c = rw (lt-ltb _ _ (c .if1 .taken)) (omega arith)
@@ -33,4 +26,4 @@ returns-2 c = rw (le-ltb _ _ (c .if1 .left)) (omega arith)
 pub replacement-spec : {M : Type 1} → statement M
 replacement-spec =
     tie.close
-    (tie.spec sub-row mul-row add-row sub-result add-result add-result-2 returns returns-2)
+    (tie.spec row-at-requires sub-result add-result add-result-2 returns returns-2)

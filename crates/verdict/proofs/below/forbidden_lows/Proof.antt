@@ -1,7 +1,7 @@
 -- The pass keeps what the types passed, and those still to come, hold. Assumes nothing.
 use borrow.Author.Needs.{needs}
 use Rattle.verdict.proofs.Lows.{Climbed, climb-start, climb-more, climb-all}
-use Rattle.table.proofs.Facts.{facts}
+use Rattle.table.proofs.Facts.{facts, has-children}
 use Rattle.table.specs.Order.{BottomUp}
 use Rattle.table.specs.Words.{types}
 use lib.ListN.{getD}
@@ -72,7 +72,9 @@ element-copy-out-own : tie.Need-element-copy-out-own Inv-loop μ-loop
 element-copy-out-own c = index c
 
 children-requires : tie.Need-children-requires Inv-loop μ-loop
-children-requires c κs = search needs
+children-requires c κs =
+    let loop = c .before in
+    has-children (begin loop .pre .0 .accepted) (order-up (ordered loop) .inside _ (is-type loop))
 
 least-of-requires : tie.Need-least-of-requires Inv-loop μ-loop
 least-of-requires c κs =

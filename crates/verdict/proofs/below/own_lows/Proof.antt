@@ -5,7 +5,7 @@ use Rattle.table.specs.Words.{types}
 use Prim.Native.Nat.{_+_}
 use Rattle.table.proofs.Privileges.{first-start, first-next, first-within}
 use borrow.Author.Needs.{needs}
-use Rattle.table.proofs.Facts.{facts}
+use Rattle.table.proofs.Facts.{facts, has-record}
 use Rattle.table.proofs.Lists.{fill-more}
 use Rattle.verdict.proofs.Lows.{low-own}
 use Rattle.verdict.specs.Below.{Low, ForbiddenOwn}
@@ -29,15 +29,15 @@ types-requires c κs = search needs
 loop-holds : tie.Need-loop-holds Inv-loop μ-loop
 loop-holds c = (search needs, sym (first-start _), c .before .before .before .pre .1, λ j l. absurd (omega arith))
 
-privileges-at-requires : tie.Need-privileges-at-requires Inv-loop μ-loop
-privileges-at-requires c κs = search needs
-
 -- the loop stands at a type
 is-type : (c : tie.In-loop Inv-loop μ-loop) → c .before .loop .x < types (now (c .before .before .before .before .before .args .words))
 is-type c = omega (arith, c .loop-test .taken, c .before .before .types .ensures .is)
 
 small : (c : tie.In-loop Inv-loop μ-loop) → c .before .loop .x < 256
 small c = omega (arith, is-type c, facts (c .before .before .before .before .before .pre .0 .accepted) .few)
+
+privileges-at-requires : tie.Need-privileges-at-requires Inv-loop μ-loop
+privileges-at-requires c κs = has-record (c .before .before .before .before .before .pre .0 .accepted) (is-type c)
 
 -- past the type's own privileges stand those of the next
 next-is : (c : tie.After-privileges-at Inv-loop μ-loop)

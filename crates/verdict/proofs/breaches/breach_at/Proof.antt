@@ -1,6 +1,7 @@
 -- By the cases of the rule. Assumes nothing.
 use Rattle.verdict.proofs.Breached.{plain-none}
 use Rattle.verdict.specs.Breaches.{none}
+use Rattle.table.proofs.Facts.{has-record, has-children}
 use Rattle.table.specs.declared.rule.Rule.{Rule}
 use Rattle.table.specs.Rule.{ruleAt, kindIn}
 use denote.Ref.{now}
@@ -15,7 +16,7 @@ kind : (c : tie.After-rule-at) {r : Rule} → c .rule-at .result ≡ r → kindI
 kind c e = ap kindIn (sym (c .rule-at .ensures .is) ∙ e)
 
 rule-at-requires : tie.Need-rule-at-requires
-rule-at-requires c κs = search needs
+rule-at-requires c κs = let p = c .before .before .pre in has-record (p .0 .accepted) (p .2)
 
 enum-told : tie.Need-enum-told
 enum-told c = search needs
@@ -39,17 +40,17 @@ enum-told-4 : tie.Need-enum-told-4
 enum-told-4 c = search needs
 
 children-requires : tie.Need-children-requires
-children-requires c κs = search needs
+children-requires c κs = let p = c .before .before .before .before .before .pre in has-children (p .0 .accepted) (p .2)
 
 numbers-at-requires : tie.Need-numbers-at-requires
-numbers-at-requires c κs = search needs
+numbers-at-requires c κs = let p = c .before .before .before .before .before .before .pre in (p .0 .accepted, p .2, p .3)
 
 choice-breach-requires : tie.Need-choice-breach-requires
 choice-breach-requires c κs =
     let start = c .before .before .before .before .before .before .before in
     let p = start .pre in (
       record { policy = p .0; lows = p .1; type = p .2; kids-are = c .before .children .ensures },
-      c .numbers-at .ensures (p .0 .accepted) (p .2) (p .3),
+      c .numbers-at .ensures,
       record { type = p .2; kind-is = kind (c .before .before .before .before) (c .before .before .enum-told4 .given .1) },
     )
 
@@ -57,17 +58,17 @@ enum-told-5 : tie.Need-enum-told-5
 enum-told-5 c = search needs
 
 children-requires-2 : tie.Need-children-requires-2
-children-requires-2 c κs = search needs
+children-requires-2 c κs = let p = c .before .before .before .before .before .pre in has-children (p .0 .accepted) (p .2)
 
 numbers-at-requires-2 : tie.Need-numbers-at-requires-2
-numbers-at-requires-2 c κs = search needs
+numbers-at-requires-2 c κs = let p = c .before .before .before .before .before .before .pre in (p .0 .accepted, p .2, p .3)
 
 star-breach-requires : tie.Need-star-breach-requires
 star-breach-requires c κs =
     let start = c .before .before .before .before .before .before .before in
     let p = start .pre in (
       record { policy = p .0; lows = p .1; type = p .2; kids-are = c .before .children2 .ensures },
-      c .numbers-at2 .ensures (p .0 .accepted) (p .2) (p .3),
+      c .numbers-at2 .ensures,
       record { type = p .2; kind-is = kind (c .before .before .before .before) (c .before .before .enum-told5 .given .1) },
     )
 

@@ -2,7 +2,7 @@
 use borrow.Author.Needs.{needs}
 use Rattle.verdict.proofs.Firsts.{CleanBefore, clean-start, clean-more, clean-all, at-none, at-first, no-tag}
 use Rattle.verdict.specs.Breaches.{clean, broken}
-use Rattle.table.proofs.Facts.{facts}
+use Rattle.table.proofs.Facts.{facts, has-record}
 use Rattle.table.proofs.Privileges.{first-start, first-next, first-within}
 use Rattle.table.specs.Privilege.{firstPrivilege}
 use Rattle.table.specs.Words.{types}
@@ -42,7 +42,9 @@ enum-told : tie.Need-enum-told Inv-loop μ-loop
 enum-told c = search needs
 
 privileges-at-requires : tie.Need-privileges-at-requires Inv-loop μ-loop
-privileges-at-requires c κs = search needs
+privileges-at-requires c κs =
+    let loop = c .before .before .before .before in
+    has-record (loop .before .before .before .before .before .before .before .pre .accepted) (is-type loop)
 
 add-first : tie.Need-add-first Inv-loop μ-loop
 add-first c =
