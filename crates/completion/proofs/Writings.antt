@@ -1,5 +1,5 @@
 -- Deciding marks one by one: a range of numbers, and the replacements of a choice. Assumes nothing.
-use Prim.Native.Nat.{ℕ, _+_, _≤_, _<_}
+use Prim.Native.Nat.{ℕ, zero, suc, _+_, _-_, _/_, _^_, _≤_, _<_}
 use mathlib.Core.Path.{_≡_, refl, sym, _∙_}
 use mathlib.Core.Logic.{_≢_, _⊎_, inl, inr}
 use mathlib.Core.Bool.{Bool, true, false, true≢false}
@@ -10,12 +10,15 @@ use lib.Dec.{eqb}
 use lib.ListN.{length, getD, set, length-set}
 use lib.Seq.{getD-set-same, getD-set-other}
 use Rattle.table.specs.Lowest.{Tells}
-use Rattle.table.specs.Privilege.{replaceIn, ReplaceableIn}
+use Rattle.table.specs.Privilege.{replaceIn, rowIn, ReplaceableIn}
 use Rattle.table.specs.declared.privilege.Numbering.{Numbering}
 use Rattle.table.proofs.Lists.{le-or-lt}
 use Rattle.table.proofs.Lowest.{tells-eq}
-use Rattle.table.proofs.Privileges.{replace-in-one}
-use Rattle.verdict.specs.Reached.{marked}
+use Rattle.table.proofs.Privileges.{row-before, row-behind, replace-in-one}
+use Rattle.verdict.specs.Reached.{bit, marked}
+use Rattle.verdict.specs.Squares.{Room}
+use Rattle.verdict.specs.Packed.{Closed}
+use Rattle.verdict.proofs.Bits.{bit-from}
 use Rattle.completion.specs.Writing.{Decision, allow, forbid, decision, RowWritten, ChoiceWritten, RangeWritten}
 
 -- what a flag tells, decided
@@ -67,6 +70,84 @@ module _ {P : ℕ → Type 0} {from : ℕ} where
       go : (from ≤ until) ⊎ (until < from) → RangeWritten P from until old new
       go (inl k) = let e : p ≡ until = omega (arith, f k) in rw e at s
       go (inr k) = record { size = s .size; within = λ q a b. absurd (omega arith); rest = λ q o. s .rest q (none (g k) q) }
+
+-- the bits of a word, written from a place on
+abbrev pub BitsWritten : ℕ → ℕ → ℕ → List ℕ → List ℕ → Type 0
+BitsWritten bits from k old new = RangeWritten (λ p. bit bits (p - from) ≡ true) from (from + k) old new
+
+pub bits-start : (bits from : ℕ) {old : List ℕ} → BitsWritten bits from 0 old old
+bits-start bits from = let e : from + 0 ≡ from = omega arith in rw e (range-start {P = λ p. bit bits (p - from) ≡ true})
+
+pub bits-more : (bits from k : ℕ) {old new : List ℕ} → BitsWritten bits from k old new → from + k < length new → BitsWritten bits from (k + 1) old (set new (from + k) (decision (bit bits k)))
+bits-more bits from k s h =
+    let e : from + (k + 1) ≡ from + k + 1 = omega arith in
+    let gone : from + k - from ≡ k = omega arith in
+    rw e (range-more s (omega arith) h (rw gone (decide-flag (bit bits k))))
+
+-- a range by another reading of its marks
+pub range-as : {P Q : ℕ → Type 0} {from until : ℕ} {old new : List ℕ} → ((p : ℕ) → from ≤ p → (P p → Q p) × (Q p → P p)) → RangeWritten P from until old new → RangeWritten Q from until old new
+range-as f s = record { size = s .size; within = λ p l h. decision-as (f p l .0) (f p l .1) (s .within p l h); rest = s .rest }
+
+-- two ranges that meet or overlap
+pub range-join : {P : ℕ → Type 0} {a b c d : ℕ} {old new newer : List ℕ} → RangeWritten P a b old new → RangeWritten P c d new newer → a ≤ c → c ≤ b → b ≤ d → RangeWritten P a d old newer
+range-join {P} {a} {b} {c} {d} {old} {new} {newer} s t ac cb bd = record {
+  size = t .size ∙ s .size;
+  within = λ p l h. go p l h (le-or-lt c p);
+  rest = λ p o. t .rest p (elim o [ inl k ↦ inl (omega arith) | inr k ↦ inr k ]) ∙ s .rest p (elim o [ inl k ↦ inl k | inr k ↦ inr (omega arith) ]);
+}
+  where
+    go : (p : ℕ) → a ≤ p → p < d → (c ≤ p) ⊎ (p < c) → Decision (P p) (getD newer p 0)
+    go p l h (inl k) = t .within p k h
+    go p l h (inr k) = rw (t .rest p (inl k)) (s .within p l (omega arith))
+
+-- the replacements of a child stand side by side: each place of its row is that of one
+row-kind : (n : Numbering) (i k : ℕ) → i < n .count → k < n .count - 1 → (j : ℕ) × ReplaceableIn n i j × (replaceIn n i j ≡ rowIn n i + k)
+row-kind n i k h l = elim (le-or-lt i k) [
+  | inl g ↦ (suc k, record { from = h; to = omega arith; apart = λ q. omega arith }, row-behind n i k g)
+  | inr g ↦ (k, record { from = h; to = omega arith; apart = λ q. omega arith }, row-before n i k g)
+]
+
+-- the row has room
+pub row-room : {n : Numbering} {i : ℕ} {out : List ℕ} → Room n out → i < n .count → 2 ≤ n .count → rowIn n i + (n .count - 1) ≤ length out
+row-room {n} {i} r h two = let last = row-kind n i (n .count - 2) h (omega arith) in omega (arith, last .2, r .room i (last .0) (last .1))
+
+-- a row of the square, written with its gap closed
+range-row : {n : Numbering} {square : List ℕ} {i bits : ℕ} {old new : List ℕ} → i < n .count → Closed i (getD square i 0) bits → BitsWritten bits (rowIn n i) (n .count - 1) old new → RowWritten n square i old new
+range-row {n} {square} {i} {bits} {old} {new} h closed s = record { size = s .size; row = λ j r. by j r (le-or-lt i j); rest = λ p f. s .rest p (out p f (le-or-lt (rowIn n i) p)) }
+  where
+    placed : (j k : ℕ) → replaceIn n i j ≡ rowIn n i + k → k < n .count - 1 → bit bits k ≡ marked square i j → Decision (marked square i j ≡ true) (getD new (replaceIn n i j) 0)
+    placed j k e l b =
+        let gone : rowIn n i + k - rowIn n i ≡ k = omega arith in
+        rw e (rw (gone, b) at (s .within (rowIn n i + k) (omega arith) (omega arith)))
+
+    by : (j : ℕ) → ReplaceableIn n i j → (i ≤ j) ⊎ (j < i) → Decision (marked square i j ≡ true) (getD new (replaceIn n i j) 0)
+    by j r (inr l) = placed j j (row-before n i j l) (omega arith) (closed .before j l)
+    by zero r (inl l) = absurd (r .apart (omega arith))
+    by (suc j) r (inl l) = let g : i ≤ j = omega (arith, r .apart) in placed (suc j) j (row-behind n i j g) (omega (arith, r .to)) (closed .behind j g)
+
+    out : (p : ℕ) → ((j : ℕ) → ReplaceableIn n i j → p ≢ replaceIn n i j) → (rowIn n i ≤ p) ⊎ (p < rowIn n i) → (p < rowIn n i) ⊎ (rowIn n i + (n .count - 1) ≤ p)
+    out p f (inr l) = inl l
+    out p f (inl l) = elim (le-or-lt (rowIn n i + (n .count - 1)) p) [
+      | inl k ↦ inr k
+      | inr k ↦ let kind = row-kind n i (p - rowIn n i) h (omega arith) in absurd (f (kind .0) (kind .1) (omega (arith, kind .2)))
+    ]
+
+-- the first eight and the last eight of a row that has eight or more
+pub row-eights : {n : Numbering} {square : List ℕ} {i from bits : ℕ} {old new newer : List ℕ} → i < n .count → 9 ≤ n .count → n .count ≤ 16 → from ≡ rowIn n i → Closed i (getD square i 0) bits →
+    BitsWritten bits from 8 old new → BitsWritten (bits / 2 ^ (n .count - 9)) (from + (n .count - 9)) 8 new newer → RowWritten n square i old newer
+row-eights {n} {square} {i} {from} {bits} {old} {new} {newer} h some few e closed s t = range-row h closed (rw (e, whole) at both)
+  where
+    m : ℕ
+    m = n .count - 9
+
+    reads : (p : ℕ) → from + m ≤ p → bit (bits / 2 ^ m) (p - (from + m)) ≡ bit bits (p - from)
+    reads p l = bit-from m bits (p - (from + m)) (p - from) (omega arith)
+
+    both : RangeWritten (λ p. bit bits (p - from) ≡ true) from (from + m + 8) old newer
+    both = range-join s (range-as (λ p l. (λ q. sym (reads p l) ∙ q, λ q. reads p l ∙ q)) t) (omega arith) (omega arith) (omega arith)
+
+    whole : rowIn n i + m + 8 ≡ rowIn n i + (n .count - 1)
+    whole = omega arith
 
 -- the replacements of some pairs are decided by the square, and the rest is as it was
 pub record Pairs (n : Numbering) (square : List ℕ) (W : ℕ → ℕ → Type 0) (old new : List ℕ) : Type 0 where

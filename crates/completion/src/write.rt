@@ -2,15 +2,19 @@
 ghost use mathlib.Core.Path.{_≡_};
 ghost use mathlib.Core.Bool.{true};
 ghost use mathlib.Core.Logic.{_⊎_};
-ghost use Prim.Native.Nat.{_≤_, _<_};
+ghost use Prim.Native.Nat.{_+_, _-_, _≤_, _<_};
 ghost use lib.ListN.{length};
 ghost use Rattle.verdict.specs.Marks.{Allowed};
+ghost use Rattle.verdict.specs.Reached.{bit};
 ghost use Rattle.verdict.specs.Squares.{Room};
 ghost use Rattle.completion.specs.Writing.{decision, RangeWritten, RowWritten, ChoiceWritten};
 use table::privilege::Numbering;
 use table::privilege::is_replaceable;
 use table::privilege::replacement;
+use table::privilege::row_at;
 use verdict::marks::mark_at;
+use verdict::packed::without_gap;
+use verdict::reach::has;
 use verdict::reach::leads;
 
 // Allowed or forbidden.
@@ -36,8 +40,8 @@ pub fn write_range(out: &mut [u8], marks: &[u8], all: bool, from: usize, until: 
     }
 }
 
-// Decides the replacements of the child at i: those to which the square leads are allowed.
-fn write_row(out: &mut [u8], square: &[u16; 16], n: Numbering, i: usize)
+// Decides the replacements of the child at i one by one: those to which the square leads are allowed.
+fn write_each(out: &mut [u8], square: &[u16; 16], n: Numbering, i: usize)
     requires { ⌜ Room n (now out) × (i < 16) ⌝ }
     ensures { λ _. ⌜ RowWritten n (now (square .entry)) i (now (out .entry)) (now (out .exit)) ⌝ }
 {
@@ -49,6 +53,35 @@ fn write_row(out: &mut [u8], square: &[u16; 16], n: Numbering, i: usize)
         }
         j += 1;
     }
+}
+
+// Decides eight marks from a place on by the lowest bits of a row. The compiler writes them at once.
+fn write_eight(out: &mut [u8], at: usize, bits: u16)
+    requires { ⌜ at + 8 ≤ length (now out) ⌝ }
+    ensures { λ _. ⌜ RangeWritten (λ p. bit bits (p - at) ≡ true) at (at + 8) (now (out .entry)) (now (out .exit)) ⌝ }
+{
+    let mut k = 0;
+    while k < 8 {
+        out[at + k] = decided(has(bits, k));
+        k += 1;
+    }
+}
+
+// Decides the replacements of the child at i: where there are eight or more, the first eight and the last eight.
+fn write_row(out: &mut [u8], square: &[u16; 16], n: Numbering, i: usize)
+    requires { ⌜ Room n (now out) × (i < n .count) ⌝ }
+    ensures { λ _. ⌜ RowWritten n (now (square .entry)) i (now (out .entry)) (now (out .exit)) ⌝ }
+{
+    let count = n.count;
+    if count < 9 {
+        write_each(out, square, n, i);
+        return;
+    }
+    let at = row_at(n, i);
+    let bits = without_gap(square[i], i);
+    let last = count - 9;
+    write_eight(out, at, bits);
+    write_eight(out, at + last, bits >> last);
 }
 
 // Decides the replacements of a choice.

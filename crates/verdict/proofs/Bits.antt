@@ -1,14 +1,16 @@
--- The bits of a word: of its double, of two words joined, of one that is written from its highest bit down. Assumes nothing.
+-- The bits of a word: of its parts, of its double, of two words joined, of one that is written from its highest bit down. Assumes nothing.
 use Prim.Native.Nat.{ℕ, zero, suc, _+_, _-_, _*_, _/_, _%_, _^_, _≤_, _<_}
 use mathlib.Core.Path.{_≡_, refl, sym, ap, subst, _∙_}
 use mathlib.Core.Bool.{Bool, true, false, not, cond, _||_, _&&_, true≢false}
-use native.Mathlib.Nat.{pow-suc, mul-comm, div-one, zero-div, div-div-eq-div-mul, pow-le-pow-right, zero-lt-suc, one-mul, mod-eq-of-lt}
+use native.Mathlib.Nat.{pow-suc, mul-comm, div-one, zero-div, pow-le-pow-right, zero-lt-suc, one-mul}
 use native.Mathlib.Omega.{arith}
 use lib.Bits.{bitOr, bitAnd, bitXor, and-shr, and-mod, or-shr, or-mod, xor-shr, xor-mod, and-mask}
 use mathlib.Core.Logic.{_≢_}
 use mathlib.Core.List.{List}
 use Rattle.table.specs.declared.privilege.Numbering.{Numbering}
+use lib.Count.{trailingZeros, under}
 use lib.Dec.{eqb}
+use lib.Pow.{shl-exact, shr-shr, high, low, field, mod-mod-pow}
 use Rattle.table.specs.Lowest.{Tells}
 use Rattle.verdict.specs.Reached.{bit}
 use Rattle.verdict.specs.Squares.{Flags, on, off, MarkIn, there, none, MarkedIn, Row, Toggled}
@@ -51,21 +53,53 @@ bit-and a b j =
 bit-none : (j : ℕ) → bit 0 j ≡ false
 bit-none j = ap (λ (r : ℕ). eqb (r % 2) 1) (zero-div (2 ^ j))
 
--- rows that have nothing in common share no bit
-pub unshared : (a b j : ℕ) → bitAnd a b ≡ 0 → ¬ ((bit a j ≡ true) × (bit b j ≡ true))
-unshared a b j e (p, q) = true≢false (sym (bit-and a b j ∙ rw (p, q) refl) ∙ ap (λ (r : ℕ). bit r j) e ∙ bit-none j)
+-- the bits from m on, and those below m
+pub bit-from : (m w j k : ℕ) → k ≡ m + j → bit (w / 2 ^ m) j ≡ bit w k
+bit-from m w j k e = rw e (ap (λ (x : ℕ). eqb (x % 2) 1) (shr-shr w m j))
 
-double-low : (r s : ℕ) → s < 2 → bit (2 * r + s) 0 ≡ eqb s 1
+pub bit-high : (w j : ℕ) → bit w (suc j) ≡ bit (w / 2) j
+bit-high w j = sym (bit-from 1 w j (suc j) (omega arith))
+
+pub bit-below : (m w j : ℕ) → j < m → bit (w % 2 ^ m) j ≡ bit w j
+bit-below m w j l =
+    let more = m - suc j in
+    let e : m ≡ more + 1 + j = omega arith in
+    ap (λ (x : ℕ). bit (w % 2 ^ x) j) e
+    ∙ ap (λ (x : ℕ). eqb (x % 2) 1) (field w (more + 1) j)
+    ∙ ap (λ (x : ℕ). eqb x 1) (mod-mod-pow (w / 2 ^ j) more 1)
+
+-- the bits below the lowest that is 1
+clear-under : (d t w : ℕ) → w % 2 ≡ d → ((j : ℕ) → j < t → bit (w / 2) j ≡ false) → (j : ℕ) → j < under d t → bit w j ≡ false
+clear-under zero t w e rest zero l = sym (bit-below 1 w 0 (omega arith)) ∙ rw e (bit-none 0)
+clear-under zero t w e rest (suc j) l = bit-high w j ∙ rest j (omega arith)
+clear-under (suc d) t w e rest j l = absurd (omega arith)
+
+zeros-clear : (k w j : ℕ) → j < trailingZeros k w → bit w j ≡ false
+unfolding trailingZeros
+zeros-clear zero w j l = absurd (omega arith)
+zeros-clear (suc k) w j l = clear-under (w % 2) (trailingZeros k (w / 2)) w refl (zeros-clear k (w / 2)) j l
+
+-- two words share no bit below the lowest that they share
+pub unshared : (k a b j : ℕ) → j < trailingZeros k (bitAnd a b) → ¬ ((bit a j ≡ true) × (bit b j ≡ true))
+unshared k a b j l (p, q) = true≢false (sym (bit-and a b j ∙ rw (p, q) refl) ∙ zeros-clear k (bitAnd a b) j l)
+
+-- two words side by side, the lower one of m bits
+module _ (m a : ℕ) {b : ℕ} (few : b < 2 ^ m) where
+  pub beside-low : (j : ℕ) → j < m → bit (a * 2 ^ m + b) j ≡ bit b j
+  beside-low j l = sym (bit-below m (a * 2 ^ m + b) j l) ∙ ap (λ (x : ℕ). bit x j) (low a m few)
+
+  pub beside-high : (j k : ℕ) → k ≡ m + j → bit (a * 2 ^ m + b) k ≡ bit a j
+  beside-high j k e = sym (bit-from m (a * 2 ^ m + b) j k e) ∙ ap (λ (x : ℕ). bit x j) (high a m few)
+
+pub double-low : (r s : ℕ) → s < 2 → bit (2 * r + s) 0 ≡ eqb s 1
 double-low r s h =
     let low : (2 * r + s) % 2 ≡ s = omega arith in
     ap (λ (x : ℕ). eqb (x % 2) 1) (div-one (2 * r + s)) ∙ ap (λ (x : ℕ). eqb x 1) low
 
-double-high : (r s j : ℕ) → s < 2 → bit (2 * r + s) (suc j) ≡ bit r j
+pub double-high : (r s j : ℕ) → s < 2 → bit (2 * r + s) (suc j) ≡ bit r j
 double-high r s j h =
     let half : (2 * r + s) / 2 ≡ r = omega arith in
-    let power : 2 ^ suc j ≡ 2 * 2 ^ j = pow-suc 2 j ∙ mul-comm (2 ^ j) 2 in
-    ap (λ (x : ℕ). eqb ((2 * r + s) / x % 2) 1) power
-    ∙ ap (λ (x : ℕ). eqb (x % 2) 1) (sym (div-div-eq-div-mul (2 * r + s) 2 (2 ^ j)) ∙ ap (λ (x : ℕ). x / 2 ^ j) half)
+    bit-high (2 * r + s) j ∙ ap (λ (x : ℕ). bit x j) half
 
 -- the bits of a power of two
 power-same : (k : ℕ) → bit (2 ^ k) k ≡ true
@@ -100,10 +134,8 @@ bit-xor a b j =
     ∙ differs (a / 2 ^ j % 2) (b / 2 ^ j % 2) (omega arith) (omega arith)
 
 -- a bit shifted to its place
-pub shifted : (k : ℕ) → k < 16 → 1 * 2 ^ k % 65536 ≡ 2 ^ k
-shifted k h =
-    let most : 2 ^ k ≤ 2 ^ 15 = let l : k ≤ 15 = omega arith in pow-le-pow-right {n = 2} (zero-lt-suc 1) l in
-    ap (λ (x : ℕ). x % 65536) (one-mul (2 ^ k)) ∙ mod-eq-of-lt (omega (arith, most))
+pub shifted : (width k : ℕ) → k < width → 1 * 2 ^ k % 2 ^ width ≡ 2 ^ k
+shifted width k h = shl-exact 1 k width (omega arith) (omega arith) ∙ one-mul (2 ^ k)
 
 pub toggles : (row k : ℕ) → Toggled k row (bitXor row (2 ^ k))
 toggles row k = record {

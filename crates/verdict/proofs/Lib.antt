@@ -6,6 +6,7 @@ pub mod Breached
 pub mod Closures
 pub mod SquareLaws
 pub mod Bits
+pub mod Packing
 pub mod Forced
 pub mod Judged
 pub mod Walks

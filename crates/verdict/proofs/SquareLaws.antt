@@ -1,7 +1,6 @@
 -- Squares of 16 rows: written row by row, closed position by position, and what they tell. Assumes nothing.
 use Prim.Native.Nat.{ℕ, _+_, _≤_, _<_}
 use mathlib.Core.Path.{_≡_, refl, sym, ap, _∙_}
-use mathlib.Core.Logic.{_≢_}
 use mathlib.Core.Bool.{Bool, true, false, true≢false}
 use mathlib.Core.List.{List}
 use native.Mathlib.Numerals.{add-one}
@@ -22,7 +21,7 @@ use Rattle.table.proofs.Lowest.{told-yes, tells-as, tells-by}
 use Rattle.table.proofs.Privileges.{edit-below, replaceable-in, in-replaceable, replace-in}
 use Rattle.verdict.specs.Marks.{Allowed, Policy}
 use Rattle.verdict.specs.Reached.{Plus, Step, marked, Marked, Square}
-use Rattle.verdict.specs.Squares.{StepIn, ForbiddenIn, Flags, on, off, Room, Joined}
+use Rattle.verdict.specs.Squares.{StepIn, ForbiddenIn, Flags, on, off, Room, Readable, Joined}
 use Rattle.verdict.specs.Visits.{Broken}
 use Rattle.verdict.proofs.Closures.{Via, via-more, via-all}
 
@@ -103,6 +102,9 @@ room-of {ws} {x = x} enough choice h = record {
 
 pub policy-room : {ws marks : List ℕ} {x : ℕ} {n : Numbering} → Policy ws marks → IsChoice ws x → NumberedAs ws x n → Room n marks
 policy-room pol choice h = room-of (omega (arith, pol .fit .size)) choice h
+
+pub policy-readable : {ws marks : List ℕ} {x : ℕ} {n : Numbering} → Policy ws marks → IsChoice ws x → NumberedAs ws x n → Readable n marks
+policy-readable pol choice h = record { room = policy-room pol choice h; legal = λ p l. pol .fit .legal p (omega (arith, pol .fit .size)) }
 
 -- a broken pair is one that both squares mark
 module _ {marks : List ℕ} {n : Numbering} {square forbidden : List ℕ} (bans : Square (n .count) (ForbiddenIn marks n) forbidden)

@@ -3,6 +3,7 @@ pub mod Marks
 pub mod Below
 pub mod Reached
 pub mod Squares
+pub mod Packed
 pub mod Conditions
 pub mod Forces
 pub mod Breaches

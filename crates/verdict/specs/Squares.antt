@@ -8,6 +8,7 @@ use lib.ListN.{length, getD, set}
 use Rattle.table.specs.Lowest.{Tells}
 use Rattle.table.specs.Privilege.{replaceIn, ReplaceableIn}
 use Rattle.table.specs.declared.privilege.Numbering.{Numbering}
+use Rattle.verdict.specs.Marks.{Legal}
 use Rattle.verdict.specs.Reached.{bit, Square}
 
 -- there is a privilege to replace the child at i by the kind at j, and it has this mark
@@ -42,6 +43,11 @@ pub record Small (n : Numbering) : Type 0 where
 pub record Room (n : Numbering) (marks : List ℕ) : Type 0 where
   pub small : Small n
   pub room : (i j : ℕ) → ReplaceableIn n i j → replaceIn n i j < length marks
+
+-- marks of 0, 1 and 2, with room for the replacements of a choice
+pub record Readable (n : Numbering) (marks : List ℕ) : Type 0 where
+  pub room : Room n marks
+  pub legal : (p : ℕ) → p < length marks → Legal marks p
 
 -- a row tells P of each of the first n positions
 pub record Row (n : ℕ) (P : ℕ → Type 0) (row : ℕ) : Type 0 where

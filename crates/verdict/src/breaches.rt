@@ -29,6 +29,7 @@ use table::privilege::replacement;
 use table::rule::Rule;
 use table::rule::children;
 use table::rule::rule_at;
+use table::words::lesser;
 use table::words::types;
 use table::words::word_at;
 
@@ -69,11 +70,11 @@ fn is_broken(
     leads(forbidden, i, j)
 }
 
-// Where a search for a bit that two rows share begins: behind the last position if they share none.
+// Where a search for a bit that two rows share begins: at the lowest such bit, or behind the last position if they share none.
 fn first_column(row: u16, other: u16, count: usize) -> usize
     ensures { λ r. ⌜ Unshared row other count r ⌝ }
 {
-    if row & other == 0 { count } else { 0 }
+    lesser(u16::trailing_zeros(row & other) as usize, count)
 }
 
 // The first such pair: the lowest i, then the lowest j.

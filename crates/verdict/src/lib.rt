@@ -7,6 +7,7 @@ ghost use Rattle.verdict.specs.Answers.{refusal, JudgeAnswer};
 pub mod below;
 pub mod breaches;
 pub mod marks;
+pub mod packed;
 pub mod reach;
 
 // What a breach breaks.

@@ -1,16 +1,20 @@
 // Reaching within a choice: the closure of the allowed replacements, a row of 16 bits for each child.
 // Contracts cite specs/Reached, and specs/Squares for the parts.
 ghost use mathlib.Core.Path.{_≡_};
-ghost use Prim.Native.Nat.{_≤_, _<_};
+ghost use Prim.Native.Nat.{_+_, _≤_, _<_};
 ghost use lib.ListN.{length};
 ghost use Rattle.table.specs.Rule.{IsChoice, countOf, childrenAt};
-ghost use Rattle.table.specs.Privilege.{NumberedAs};
+ghost use Rattle.table.specs.Privilege.{NumberedAs, rowIn};
 ghost use Rattle.verdict.specs.Marks.{Allowed, Policy};
 ghost use Rattle.verdict.specs.Reached.{Plus, Reached, bit, marked, Marked, Square};
-ghost use Rattle.verdict.specs.Squares.{StepIn, MarkIn, Flags, Room, RowRead, Read, RowJoined, Joined, Toggled};
+ghost use Rattle.verdict.specs.Squares.{StepIn, MarkIn, Flags, Room, Readable, RowRead, Read, RowJoined, Joined, Toggled};
+use super::packed::eight;
+use super::packed::sixteen;
+use super::packed::with_gap;
 use table::privilege::Numbering;
 use table::privilege::is_replaceable;
 use table::privilege::replacement;
+use table::privilege::row_at;
 
 // The mark of the replacement of i by j; 0 where there is none.
 fn mark_of(marks: &[u8], n: Numbering, i: usize, j: usize) -> u8
@@ -30,8 +34,8 @@ fn flag(mark: u8, asked: u8) -> u16
     if mark == asked { 1 } else { 0 }
 }
 
-// Reads row i: what is allowed, and what is forbidden.
-fn read_row(
+// Reads row i mark by mark: what is allowed, and what is forbidden.
+fn read_each(
     marks: &[u8],
     n: Numbering,
     i: usize,
@@ -54,6 +58,44 @@ fn read_row(
     forbidden[i] = bans;
 }
 
+// Reads row i, whose first mark is given, sixteen marks at once.
+fn read_at_once(
+    marks: &[u8],
+    n: Numbering,
+    i: usize,
+    at: usize,
+    allowed: &mut [u16; 16],
+    forbidden: &mut [u16; 16],
+)
+    requires { ⌜ Readable n (now marks) × (i < n .count) × (at ≡ rowIn n i) × (at + 16 ≤ length (now marks)) × (length (now allowed) ≡ 16) × (length (now forbidden) ≡ 16) ⌝ }
+    ensures { λ _. ⌜ RowRead (now (marks .entry)) n i (now (allowed .entry)) (now (forbidden .entry)) (now (allowed .exit)) (now (forbidden .exit)) ⌝ }
+{
+    let count = n.count;
+    let first = eight(marks, at);
+    let second = eight(marks, at + 8);
+    allowed[i] = with_gap(sixteen(first, second), count, i);
+    forbidden[i] = with_gap(sixteen(first / 2, second / 2), count, i);
+}
+
+// Reads row i: at once where sixteen marks are left.
+fn read_row(
+    marks: &[u8],
+    n: Numbering,
+    i: usize,
+    allowed: &mut [u16; 16],
+    forbidden: &mut [u16; 16],
+)
+    requires { ⌜ Readable n (now marks) × (i < n .count) × (length (now allowed) ≡ 16) × (length (now forbidden) ≡ 16) ⌝ }
+    ensures { λ _. ⌜ RowRead (now (marks .entry)) n i (now (allowed .entry)) (now (forbidden .entry)) (now (allowed .exit)) (now (forbidden .exit)) ⌝ }
+{
+    let at = row_at(n, i);
+    if at + 16 <= marks.len() {
+        read_at_once(marks, n, i, at, allowed, forbidden);
+    } else {
+        read_each(marks, n, i, allowed, forbidden);
+    }
+}
+
 // Reads the marks of a choice by its children and its numbering.
 pub fn read_rows(
     kids: &[u16],
@@ -62,7 +104,7 @@ pub fn read_rows(
     allowed: &mut [u16; 16],
     forbidden: &mut [u16; 16],
 )
-    requires { ⌜ Room n (now marks) × (length (now kids) ≡ n .count) × (length (now allowed) ≡ 16) × (length (now forbidden) ≡ 16) ⌝ }
+    requires { ⌜ Readable n (now marks) × (length (now kids) ≡ n .count) × (length (now allowed) ≡ 16) × (length (now forbidden) ≡ 16) ⌝ }
     ensures { λ _. ⌜ Read (now (marks .entry)) n (now (allowed .exit)) (now (forbidden .exit)) ⌝ }
 {
     let mut i = 0;
@@ -73,7 +115,7 @@ pub fn read_rows(
 }
 
 // Is bit j of the row 1?
-fn has(row: u16, j: usize) -> bool
+pub fn has(row: u16, j: usize) -> bool
     requires { ⌜ j < 16 ⌝ }
     ensures { λ r. ⌜ r ≡ bit row j ⌝ }
 {

@@ -1,94 +1,82 @@
--- The loop has decided the replacements of row i up to column j. Assumes nothing.
-use Prim.Native.Nat.{ℕ, _-_, _<_}
-use mathlib.Core.Path.{_≡_}
-use mathlib.Core.Logic.{⊎-elim}
-use mathlib.Core.Bool.{true}
-use native.Mathlib.Omega.{arith}
+-- A row of eight or more is written by its first eight and its last eight. Assumes nothing.
 use borrow.Author.Needs.{needs}
+use Prim.Native.Nat.{_+_, _-_, _≤_}
+use denote.Ref.{now}
+use native.Mathlib.Omega.{arith}
 use lib.ListN.{length}
-use Rattle.table.specs.Privilege.{replaceIn, ReplaceableIn}
-use Rattle.table.specs.declared.privilege.Numbering.{Numbering}
-use Rattle.table.proofs.Lowest.{told-yes, told-no}
-use Rattle.completion.proofs.Writings.{decide-flag, RowPairs, pairs-none, pairs-one, row-more, row-all}
+use Rattle.completion.proofs.Writings.{row-room, row-eights}
 use Rattle.completion.proofs.write.write_row.Statement.{statement}
 use Rattle.completion.proofs.write.write_row.Tie as tie
 
-abbrev Inv-loop : tie.InvT-loop
-Inv-loop out₀ square n i count j₀ out j = RowPairs n square i j out₀ out
+-- the row has room
+room : (c : tie.After-row-at) → c .row-at .result + (c .before .before .before .args .n .count - 1) ≤ length (now (c .before .before .before .args .out))
+room c = let start = c .before .before .before in omega (arith, c .row-at .ensures .is, row-room (start .pre .0) (start .pre .1) (omega arith))
 
-abbrev μ-loop : tie.MeasureT-loop
-μ-loop out₀ square n i count j₀ out j = count - j
+write-each-requires : tie.Need-write-each-requires
+write-each-requires c κs = search needs
 
--- where the test says so, the replacement can be made, and its mark is one of the result's
-module _ (c : tie.After-is-replaceable Inv-loop μ-loop) (e : c .is-replaceable .result ≡ true) where
-  abbrev n : Numbering
-  n = c .before .before .before .before .args .n
+same-length : tie.Need-same-length
+same-length c = search needs
 
-  abbrev i : ℕ
-  i = c .before .before .before .before .args .i
+returns : tie.Need-returns
+returns c = search needs
 
-  replaceable : ReplaceableIn n i (c .before .before .loop .j)
-  replaceable = told-yes (c .is-replaceable .result) (c .is-replaceable .ensures) e
+row-at-requires : tie.Need-row-at-requires
+row-at-requires c κs = search needs
 
-  room : replaceIn n i (c .before .before .loop .j) < length (c .before .before .loop .out)
-  room = omega (arith, c .before .before .before .before .pre .0 .room i (c .before .before .loop .j) replaceable, c .before .before .loop .inv .size)
+mul-without-gap : tie.Need-mul-without-gap
+mul-without-gap c = search needs
 
-loop-holds : tie.Need-loop-holds Inv-loop μ-loop
-loop-holds c = pairs-none (λ a b w r. omega (arith, w .1))
+element-copy-out-without-gap : tie.Need-element-copy-out-without-gap
+element-copy-out-without-gap c = search needs
 
-is-replaceable-requires : tie.Need-is-replaceable-requires Inv-loop μ-loop
-is-replaceable-requires c κs = search needs
+without-gap-requires : tie.Need-without-gap-requires
+without-gap-requires c κs = search needs
 
-leads-requires : tie.Need-leads-requires Inv-loop μ-loop
-leads-requires c κs = search needs
+write-eight-requires : tie.Need-write-eight-requires
+write-eight-requires c κs = omega (arith, room (c .before .before .before))
 
-decided-requires : tie.Need-decided-requires Inv-loop μ-loop
-decided-requires c κs = search needs
+add-write-eight : tie.Need-add-write-eight
+add-write-eight c = search needs
 
-replacement-requires : tie.Need-replacement-requires Inv-loop μ-loop
-replacement-requires c κs =
-    let asked = c .before .before .before in
-    let can = replaceable asked (c .before .before .if1 .taken) in
-    let small = asked .before .before .before .before .pre .0 .small in
-    record { low = small .low; few = small .few; from = can .from; to = can .to }
+cast-write-eight : tie.Need-cast-write-eight
+cast-write-eight c = search needs
 
-slice-write-out : tie.Need-slice-write-out Inv-loop μ-loop
-slice-write-out c = rw (c .replacement .ensures) (room (c .before .before .before .before) (c .before .before .before .if1 .taken))
+shr-write-eight : tie.Need-shr-write-eight
+shr-write-eight c = search needs
 
-add-j : tie.Need-add-j Inv-loop μ-loop
-add-j c = search needs
+write-eight-requires-2 : tie.Need-write-eight-requires-2
+write-eight-requires-2 c κs =
+    let first = c .before .before .before in
+    omega (arith, room (first .before .before .before .before), first .write-eight .ensures .size)
 
-loop-less : tie.Need-loop-less Inv-loop μ-loop
-loop-less c = search needs
+same-length-2 : tie.Need-same-length-2
+same-length-2 c = search needs
 
-loop-again : tie.Need-loop-again Inv-loop μ-loop
-loop-again c =
-    let asked = c .before in
-    row-more (asked .before .before .loop .inv)
-    (⊎-elim (λ w. rw (w .4, w .3 .ensures, w .2 .ensures, w .1 .ensures) (pairs-one (replaceable asked (w .0 .taken)) (room asked (w .0 .taken)) (decide-flag _)))
-    (λ w. rw (w .1) (pairs-none (λ a b e r. told-no (asked .is-replaceable .result) (asked .is-replaceable .ensures) (w .0 .left) (rw (e .0, e .1) at r))))
-    (c .if1 .came))
-
-same-length : tie.Need-same-length Inv-loop μ-loop
-same-length c = c .before .loop .inv .size
-
-returns : tie.Need-returns Inv-loop μ-loop
-returns c = row-all (c .before .loop .inv) (omega arith)
+returns-2 : tie.Need-returns-2
+returns-2 c =
+    let second = c .before .before in
+    let first = second .before .before .before .before in
+    let gap = first .before .before in
+    let row = gap .before .before in
+    let start = row .before .before .before in
+    row-eights (start .pre .1) (omega arith) (start .pre .0 .small .few) (row .row-at .ensures .is) (gap .without-gap .ensures) (first .write-eight .ensures) (second .write-eight2 .ensures)
 
 pub write-row-spec : {M : Type 1} → statement M
 write-row-spec =
     tie.close
     (tie.spec
-    Inv-loop
-    μ-loop
-    loop-holds
-    is-replaceable-requires
-    leads-requires
-    decided-requires
-    replacement-requires
-    slice-write-out
-    add-j
-    loop-less
-    loop-again
+    write-each-requires
     same-length
-    returns)
+    returns
+    row-at-requires
+    mul-without-gap
+    element-copy-out-without-gap
+    without-gap-requires
+    write-eight-requires
+    add-write-eight
+    cast-write-eight
+    shr-write-eight
+    write-eight-requires-2
+    same-length-2
+    returns-2)

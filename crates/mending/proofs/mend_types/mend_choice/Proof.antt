@@ -6,7 +6,7 @@ use denote.Ref.{now}
 use native.Mathlib.Omega.{arith}
 use Rattle.table.specs.Privilege.{privileges, replaceIn}
 use Rattle.verdict.specs.Squares.{StepIn, Read}
-use Rattle.verdict.proofs.SquareLaws.{kids-here, policy-room}
+use Rattle.verdict.proofs.SquareLaws.{kids-here, policy-readable}
 use Rattle.mending.specs.Taking.{TakenAt, start}
 use Rattle.mending.proofs.Counting.{allowedIn}
 use Rattle.mending.proofs.Staying.{Mending, next-within, next-less, mending-take, mending-few}
@@ -35,7 +35,7 @@ read-rows-requires : tie.Need-read-rows-requires Inv-loop μ-loop
 read-rows-requires c κs =
     let begin = c .before .before .before .before .before .before in
     let v = begin .pre .0 in
-    (policy-room (v .policy) (begin .pre .1) (v .numbered), kids-here (v .policy .accepted) (v .type) (v .kids-are) (v .numbered), refl, refl)
+    (policy-readable (v .policy) (begin .pre .1) (v .numbered), kids-here (v .policy .accepted) (v .type) (v .kids-are) (v .numbered), refl, refl)
 
 loop-holds : tie.Need-loop-holds Inv-loop μ-loop
 loop-holds c =

@@ -1,14 +1,14 @@
 -- The choice's steps were read. Assumes nothing.
 use borrow.Author.Needs.{needs}
 use mathlib.Core.Path.{refl}
-use Rattle.verdict.proofs.SquareLaws.{kids-here, policy-room}
+use Rattle.verdict.proofs.SquareLaws.{kids-here, policy-readable}
 use Rattle.verdict.proofs.reach.reached.Statement.{statement}
 use Rattle.verdict.proofs.reach.reached.Tie as tie
 
 read-rows-requires : tie.Need-read-rows-requires
 read-rows-requires c κs =
     let start = c .before .before .before .before .before in
-    (policy-room (start .pre .0) (start .pre .1) (start .pre .3), kids-here (start .pre .0 .accepted) (start .pre .1 .type) (start .pre .2) (start .pre .3), refl, refl)
+    (policy-readable (start .pre .0) (start .pre .1) (start .pre .3), kids-here (start .pre .0 .accepted) (start .pre .1 .type) (start .pre .2) (start .pre .3), refl, refl)
 
 reached-by-requires : tie.Need-reached-by-requires
 reached-by-requires c κs = search needs

@@ -23,7 +23,7 @@ read-row-requires c κs =
     let inside = c .before .before in
     let rows = inside .before .loop .inv in
     let start = inside .before .before .before .before in
-    (start .pre .0, omega (arith, inside .loop-test .taken, start .pre .1, start .pre .0 .small .few), rows .0 .size, rows .1 .size)
+    (start .pre .0, omega (arith, inside .loop-test .taken, start .pre .1), rows .0 .size, rows .1 .size)
 
 add-i : tie.Need-add-i Inv-loop μ-loop
 add-i c = search needs
@@ -37,7 +37,7 @@ loop-again c =
     let rows = inside .before .loop .inv in
     let start = inside .before .before .before .before in
     let row = c .read-row .ensures in
-    let h : inside .before .loop .i < 16 = omega (arith, inside .loop-test .taken, start .pre .1, start .pre .0 .small .few) in
+    let h : inside .before .loop .i < 16 = omega (arith, inside .loop-test .taken, start .pre .1, start .pre .0 .room .small .few) in
     (rw (row .allowed-is) (rows-more (rows .0) (row .steps) h (row .steps-tell)), rw (row .forbidden-is) (rows-more (rows .1) (row .bans) h (row .bans-tell)))
 
 returns : tie.Need-returns Inv-loop μ-loop

@@ -11,7 +11,7 @@ shl-result : tie.Need-shl-result
 shl-result c = search needs
 
 returns : tie.Need-returns
-returns c = rw (shifted (c .args .k) (c .pre)) (toggles (c .args .row) (c .args .k))
+returns c = rw (shifted 16 (c .args .k) (c .pre)) (toggles (c .args .row) (c .args .k))
 
 pub toggled-spec : {M : Type 1} → statement M
 toggled-spec = tie.close (tie.spec cast-result shl-result returns)

@@ -4,8 +4,8 @@ use mathlib.Core.Path.{refl}
 use native.Mathlib.Omega.{arith}
 use Rattle.verdict.specs.Squares.{StepIn, ForbiddenIn}
 use Rattle.verdict.proofs.Bits.{RowFrom, row-start, row-small, row-more, row-end, flag-few, mark-flags}
-use Rattle.verdict.proofs.reach.read_row.Statement.{statement}
-use Rattle.verdict.proofs.reach.read_row.Tie as tie
+use Rattle.verdict.proofs.reach.read_each.Statement.{statement}
+use Rattle.verdict.proofs.reach.read_each.Tie as tie
 
 abbrev Inv-loop : tie.InvT-loop
 Inv-loop marks n i allowed forbidden steps₀ bans₀ j₀ steps bans j = RowFrom (StepIn marks n i) (n .count) j steps × RowFrom (ForbiddenIn marks n i) (n .count) j bans
@@ -85,8 +85,8 @@ returns c =
       forbidden-is = refl;
     }
 
-pub read-row-spec : {M : Type 1} → statement M
-read-row-spec =
+pub read-each-spec : {M : Type 1} → statement M
+read-each-spec =
     tie.close
     (tie.spec
     Inv-loop
