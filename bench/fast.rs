@@ -1,13 +1,12 @@
 // The five calls written by hand for speed, in plain Rust: what the proved code is measured against.
 // The steps are those of the proved code: a table check with the numbers in order, one bottom-up pass for the lowest forbidden privilege below each
 // type, Warshall's closure for each choice, a completion that opens downwards, a mend in ascending order with the closure made anew for each mark
-// taken. What is done by hand: a row of a choice is 16 bits, marks are read and compared 8 or 16 at a time, and a table is
-// accepted in two passes, one over the records and one over the child list; only a refused one is searched for the first failing check.
-// Nothing is allocated, and nothing is unsafe.
+// taken. What is done by hand: a table is accepted in one pass that looks kinds up in tables and leaves at the first thing wrong, and only a
+// refused one is searched for the first failing check; a row of a choice is 16 bits; marks are checked and compared many at a time, read 16 at a
+// time, each mark's bit gathered by a multiplication, and written eight at a time. Nothing is allocated, and nothing is unsafe.
 
 use crate::calls::Outcome;
 
-const TEXT: u16 = 1;
 const CHOICE: u16 = 3;
 const STAR: u16 = 4;
 
@@ -41,23 +40,19 @@ impl<'a> Table<'a> {
     }
 }
 
-fn privileges_of(record: &Record) -> usize {
-    let n = record[1] as usize;
-    match record[0] {
-        TEXT => 1,
-        STAR => 2,
-        CHOICE => n * n - n,
-        _ => 0,
-    }
+/// Looked up by kind: the privileges that are no replacements, and the least and the most children. No number of children fits a kind above 4.
+const OTHERS: [u8; 8] = [0, 1, 0, 0, 2, 0, 0, 0];
+const LEAST: [u16; 8] = [0, 0, 1, 1, 1, 1, 1, 1];
+const MOST: [u16; 8] = [0, 0, MOST_CHILDREN, MOST_CHILDREN, 1, 0, 0, 0];
+
+fn privileges_of(&[kind, count, _]: &Record) -> usize {
+    let n = if kind == CHOICE { count as usize } else { 0 };
+    OTHERS[kind as usize & 7] as usize + n * n - n
 }
 
-fn count_fits(kind: u16, count: u16) -> bool {
-    match kind {
-        0 | TEXT => count == 0,
-        2 | CHOICE => (1..=MOST_CHILDREN).contains(&count),
-        STAR => count == 1,
-        _ => false,
-    }
+fn count_fits(&[kind, count, _]: &Record) -> bool {
+    let k = kind as usize & 7;
+    (kind <= STAR) & (LEAST[k] <= count) & (count <= MOST[k])
 }
 
 fn read_table(words: &[u16]) -> Result<Table<'_>, Refusal> {
@@ -75,44 +70,37 @@ fn read_table(words: &[u16]) -> Result<Table<'_>, Refusal> {
     }
     let (records, list) = rest.split_at(3 * e);
     let (records, _) = records.as_chunks::<3>();
-    if records_fit(records, c) && children_fit(records, list) {
-        let total = records.iter().map(privileges_of).sum();
-        if total <= MOST_PRIVILEGES && v == total {
-            return Ok(Table { records, list, v });
-        }
+    if accepted(records, list) == Some(v) {
+        return Ok(Table { records, list, v });
     }
     Err(first_failing(records, list))
 }
 
-/// Checks 3 to 5 in one pass.
-fn records_fit(records: &[Record], entries: usize) -> bool {
-    let mut running = 0;
-    for &[kind, count, first] in records {
-        if !count_fits(kind, count) || first as usize != running {
-            return false;
-        }
-        running += count as usize;
-    }
-    running == entries
-}
-
-/// Checks 6 to 8 in one pass: each child is stamped with its latest parent, from 1.
-fn children_fit(records: &[Record], list: &[u16]) -> bool {
+/// V, if checks 3 to 8 pass and it is not too large: one pass, in which each child is stamped with its latest parent, from 1.
+fn accepted(records: &[Record], list: &[u16]) -> Option<usize> {
     let e = records.len();
     let mut stamps = [0u16; 256];
-    let mut fits = true;
+    let (mut running, mut total) = (0, 0);
     let mut rest = list;
     for (t, record) in records.iter().enumerate() {
-        let (kids, others) = rest.split_at(record[1] as usize);
+        if !(count_fits(record) & (record[2] == running)) {
+            return None;
+        }
+        let (kids, others) = rest.split_at_checked(record[1] as usize)?;
         rest = others;
+        running += record[1];
+        total += privileges_of(record);
         let stamp = t as u16 + 1;
         for &child in kids {
             let place = &mut stamps[child as usize & 255];
-            fits &= (child as usize) < e && child >= stamp && *place != stamp;
+            if (child as usize >= e) | (child < stamp) | (*place == stamp) {
+                return None;
+            }
             *place = stamp;
         }
     }
-    fits && stamps[1..e].iter().fold(true, |all, &stamp| all & (stamp != 0))
+    let orphans = stamps[1..e].iter().fold(false, |any, &stamp| any | (stamp == 0));
+    (rest.is_empty() & !orphans & (total <= MOST_PRIVILEGES)).then_some(total)
 }
 
 /// The first of the checks 3 to 9 that fails, and the lowest place at which it does.
@@ -122,7 +110,7 @@ fn first_failing(records: &[Record], list: &[u16]) -> Refusal {
     if let Some(t) = records.iter().position(|record| record[0] > STAR) {
         return (3, t);
     }
-    if let Some(t) = records.iter().position(|record| !count_fits(record[0], record[1])) {
+    if let Some(t) = records.iter().position(|record| !count_fits(record)) {
         return (4, t);
     }
     let mut running = 0;
@@ -176,18 +164,6 @@ fn read_policy<'a>(words: &'a [u16], marks: &[u8]) -> Result<Table<'a>, Refusal>
     Ok(table)
 }
 
-/// The 16 marks from a place on, the first in the lowest byte, 0 behind the end.
-fn sixteen(marks: &[u8], at: usize) -> u128 {
-    if let Some(whole) = marks[at..].first_chunk::<16>() {
-        return u128::from_le_bytes(*whole);
-    }
-    let mut padded = [0; 16];
-    for (to, &mark) in padded.iter_mut().zip(&marks[at..]) {
-        *to = mark;
-    }
-    u128::from_le_bytes(padded)
-}
-
 /// A bit for each of 16 bytes: their lowest.
 fn lowest_bits(bytes: u128) -> u16 {
     let eight = |half: u64| {
@@ -200,15 +176,16 @@ fn lowest_bits(bytes: u128) -> u16 {
 /// The lowest forbidden privilege among some marks, the first of which has a given number.
 fn lowest_forbidden(marks: &[u8], first: usize) -> u16 {
     let twos = u128::from_ne_bytes([FORBIDDEN; 16]);
-    let mut at = 0;
-    while at < marks.len() {
-        let found = sixteen(marks, at) & twos;
+    let (chunks, rest) = marks.as_chunks::<16>();
+    let mut at = first;
+    for chunk in chunks {
+        let found = u128::from_le_bytes(*chunk) & twos;
         if found != 0 {
-            return (first + at + found.trailing_zeros() as usize / 8) as u16;
+            return (at + found.trailing_zeros() as usize / 8) as u16;
         }
         at += 16;
     }
-    NONE
+    rest.iter().position(|&mark| mark == FORBIDDEN).map_or(NONE, |k| (at + k) as u16)
 }
 
 // ---------------------------------------------------------------- the verdict
@@ -245,17 +222,31 @@ fn replacement(first: usize, n: usize, i: usize, j: usize) -> usize {
     first + i * (n - 1) + j - (j > i) as usize
 }
 
+/// What is allowed and what is forbidden among the marks of a row: a bit for each.
+fn read_row(marks: &[u8], at: usize, own: usize) -> (u16, u16) {
+    if let Some(whole) = marks[at..].first_chunk::<16>() {
+        let row = u128::from_le_bytes(*whole);
+        let mask = (1 << own) - 1;
+        return (lowest_bits(row) & mask, lowest_bits(row >> 1) & mask);
+    }
+    let (mut steps, mut bans) = (0, 0);
+    for (k, &mark) in marks[at..at + own].iter().enumerate() {
+        steps |= ((mark == ALLOWED) as u16) << (k & 15);
+        bans |= ((mark == FORBIDDEN) as u16) << (k & 15);
+    }
+    (steps, bans)
+}
+
 /// What is allowed and what is forbidden at a choice of n.
 fn read_choice(marks: &[u8], first: usize, n: usize) -> (Rows, Rows) {
     let (mut allowed, mut forbidden) = ([0; 16], [0; 16]);
-    let own = (1u16 << (n - 1)) - 1;
     for i in 0..n.min(16) {
-        let row = sixteen(marks, first + i * (n - 1));
-        let before = (1u16 << i) - 1;
+        let (steps, bans) = read_row(marks, first + i * (n - 1), n - 1);
         // bit j of the marks is position j, or j + 1 from i on
-        let placed = |bits: u16| (bits & before) | (bits & own & !before) << 1;
-        allowed[i] = placed(lowest_bits(row));
-        forbidden[i] = placed(lowest_bits(row >> 1));
+        let before = (1u16 << i) - 1;
+        let placed = |bits: u16| bits + (bits & !before);
+        allowed[i] = placed(steps);
+        forbidden[i] = placed(bans);
     }
     (allowed, forbidden)
 }
@@ -352,17 +343,26 @@ fn decide(marks: &[u8], out: &mut [u8]) {
     }
 }
 
-/// Writes the decided marks of a choice, 16 at a time where the result goes on so far: what is written too much is written again by a later row or
-/// type, since both come in the order of numbers.
+/// Eight marks, decided by the lowest eight bits: 1 where a bit is 1, else 2.
+fn eight_decided(bits: u16) -> [u8; 8] {
+    let apart = (bits as u64 & 255).wrapping_mul(0x0101_0101_0101_0101) & 0x8040_2010_0804_0201;
+    let ones = (apart + 0x7f7f_7f7f_7f7f_7f7f) >> 7 & 0x0101_0101_0101_0101;
+    (0x0202_0202_0202_0202 - ones).to_le_bytes()
+}
+
+/// Writes the decided marks of a choice: of a row of eight or more the first eight and the last eight.
 fn write_choice(reached: &Rows, n: usize, first: usize, out: &mut [u8]) {
+    let own = n - 1;
     for i in 0..n.min(16) {
         let before = (1u16 << i) - 1;
         let bits = (reached[i] & before) | (reached[i] >> 1 & !before);
-        let decided: [u8; 16] = std::array::from_fn(|k| FORBIDDEN - (bits >> k & 1) as u8);
-        let row = &mut out[first + i * (n - 1)..];
-        match row.first_chunk_mut::<16>() {
-            Some(room) => *room = decided,
-            None => row[..n - 1].copy_from_slice(&decided[..n - 1]),
+        let row = &mut out[first + i * own..][..own];
+        match row.first_chunk_mut::<8>() {
+            Some(eight) => {
+                *eight = eight_decided(bits);
+                row[own - 8..].copy_from_slice(&eight_decided(bits >> (own - 8)));
+            }
+            None => row.copy_from_slice(&eight_decided(bits)[..own]),
         }
     }
 }
