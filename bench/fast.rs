@@ -1,12 +1,17 @@
 // The five calls written by hand for speed, in plain Rust: what the proved code is measured against.
-// The steps are those of the proved code: a table check with the numbers in order, one bottom-up pass for the lowest forbidden privilege below each
+// The steps are those of the proved code: a table check that puts the types in order, one bottom-up pass for the lowest forbidden privilege below each
 // type, Warshall's closure for each choice, a completion that opens downwards, a mend in ascending order with the closure made anew for each mark
-// taken. What is done by hand: a table is accepted in one pass that looks kinds up in tables and leaves at the first thing wrong, and only a
-// refused one is searched for the first failing check; a row of a choice is 16 bits; marks are checked and compared many at a time, read 16 at a
-// time, each mark's bit gathered by a multiplication, and written eight at a time. Nothing is allocated, and nothing is unsafe.
+// taken. What is done by hand: a table is accepted by a pass over its records that is not left early and looks rules up, one over its child list, and
+// one over the types in their order, which is made meanwhile, without a branch; only a refused one is searched for the first failing check, and
+// for a cycle in one walk; a row of a choice is 16 bits; marks are checked and compared many at a time, read 16 at a time, each mark's bit gathered
+// by a multiplication, and written eight at a time. Nothing is allocated, and nothing is unsafe.
 
 use crate::calls::Outcome;
+use std::mem::replace;
 
+const EMPTY: u16 = 0;
+const TEXT: u16 = 1;
+const SEQUENCE: u16 = 2;
 const CHOICE: u16 = 3;
 const STAR: u16 = 4;
 
@@ -32,30 +37,50 @@ struct Table<'a> {
     records: &'a [Record],
     list: &'a [u16],
     v: usize,
+    /// The root and the other types with children, each after its parents.
+    order: &'a [u8],
 }
 
 impl<'a> Table<'a> {
     fn children(&self, record: &Record) -> &'a [u16] {
-        &self.list[record[2] as usize..][..record[1] as usize]
+        children(self.list, record)
     }
 }
 
-/// Looked up by kind: the privileges that are no replacements, and the least and the most children. No number of children fits a kind above 4.
-const OTHERS: [u8; 8] = [0, 1, 0, 0, 2, 0, 0, 0];
-const LEAST: [u16; 8] = [0, 0, 1, 1, 1, 1, 1, 1];
-const MOST: [u16; 8] = [0, 0, MOST_CHILDREN, MOST_CHILDREN, 1, 0, 0, 0];
+/// Room for an order of types.
+type Order = [u8; 256];
+
+fn children<'a>(list: &'a [u16], record: &Record) -> &'a [u16] {
+    &list[record[2] as usize..][..record[1] as usize]
+}
+
+/// The privileges of each rule; too many, where the number of children does not fit the kind.
+const PRIVILEGES: [u16; 256] = {
+    let mut all = [MISFIT; 256];
+    all[rule(EMPTY, 0)] = 0;
+    all[rule(TEXT, 0)] = 1;
+    all[rule(STAR, 1)] = 2;
+    let mut n = 1;
+    while n <= MOST_CHILDREN {
+        all[rule(SEQUENCE, n)] = 0;
+        all[rule(CHOICE, n)] = n * n - n;
+        n += 1;
+    }
+    all
+};
+
+const MISFIT: u16 = MOST_PRIVILEGES as u16 + 1;
+
+/// Where a rule is found: it has a kind below 8 and fewer than 32 children.
+const fn rule(kind: u16, count: u16) -> usize {
+    (kind << 5 | count) as u8 as usize
+}
 
 fn privileges_of(&[kind, count, _]: &Record) -> usize {
-    let n = if kind == CHOICE { count as usize } else { 0 };
-    OTHERS[kind as usize & 7] as usize + n * n - n
+    PRIVILEGES[rule(kind, count)] as usize
 }
 
-fn count_fits(&[kind, count, _]: &Record) -> bool {
-    let k = kind as usize & 7;
-    (kind <= STAR) & (LEAST[k] <= count) & (count <= MOST[k])
-}
-
-fn read_table(words: &[u16]) -> Result<Table<'_>, Refusal> {
+fn read_table<'a>(words: &'a [u16], order: &'a mut Order) -> Result<Table<'a>, Refusal> {
     let Some((header, rest)) = words.split_first_chunk::<8>() else {
         return Err((1, 0));
     };
@@ -63,54 +88,110 @@ fn read_table(words: &[u16]) -> Result<Table<'_>, Refusal> {
     if format != 1 {
         return Err((1, 0));
     }
-    let counts = (1..=256).contains(&e) && c <= 1024 && root == 0;
+    let counts = (1..=256).contains(&e) && c <= 1024 && root < e;
     let offsets = at == 8 && list_at == 8 + 3 * e && size == 8 + 3 * e + c;
     if !counts || !offsets || words.len() != size {
         return Err((2, 0));
     }
     let (records, list) = rest.split_at(3 * e);
     let (records, _) = records.as_chunks::<3>();
-    if accepted(records, list) == Some(v) {
-        return Ok(Table { records, list, v });
+    match accepted(records, list, root, order) {
+        Some((total, n)) if total == v => Ok(Table { records, list, v, order: &order[..n] }),
+        _ => Err(first_failing(records, list, root)),
     }
-    Err(first_failing(records, list))
 }
 
-/// V, if checks 3 to 8 pass and it is not too large: one pass, in which each child is stamped with its latest parent, from 1.
-fn accepted(records: &[Record], list: &[u16]) -> Option<usize> {
-    let e = records.len();
-    let mut stamps = [0u16; 256];
-    let (mut running, mut total) = (0, 0);
-    let mut rest = list;
-    for (t, record) in records.iter().enumerate() {
-        if !(count_fits(record) & (record[2] == running)) {
-            return None;
-        }
-        let (kids, others) = rest.split_at_checked(record[1] as usize)?;
-        rest = others;
-        running += record[1];
+/// V and the length of the order, if checks 3 to 8 and 19 pass and V is not too large.
+fn accepted(
+    records: &[Record],
+    list: &[u16],
+    root: usize,
+    order: &mut Order,
+) -> Option<(usize, usize)> {
+    let mut untaken = [0; 256];
+    let total = fitting(records, list, &mut untaken)?;
+    count_entries(list, &mut untaken);
+    let length = put_in_order(records, list, root, &mut untaken, order)?;
+    Some((total, length))
+}
+
+/// V, if checks 3 to 6 pass and it is not too large. The counts of entries begin at 0, or, for types without children, at 1: those never come to 0.
+fn fitting(records: &[Record], list: &[u16], untaken: &mut [u8; 256]) -> Option<usize> {
+    let (mut odd, mut astray) = (0, 0);
+    let (mut running, mut total) = (0u16, 0);
+    for (record, untaken) in records.iter().zip(untaken) {
+        let &[kind, count, first] = record;
+        odd |= kind | count >> 2;
+        astray |= first ^ running;
+        running = running.wrapping_add(count);
         total += privileges_of(record);
-        let stamp = t as u16 + 1;
+        *untaken = (count == 0) as u8;
+    }
+    let rules = (odd < 8) & (total <= MOST_PRIVILEGES);
+    let stretches = (astray == 0) & (running as usize == list.len());
+    let highest = list.iter().fold(0, |most, &child| child.max(most)) as usize;
+    (rules & stretches & (highest < records.len())).then_some(total)
+}
+
+/// Counts for each type the entries that name it.
+fn count_entries(list: &[u16], untaken: &mut [u8; 256]) {
+    let mut count = |&child: &u16| {
+        let entries = &mut untaken[child as usize & 255];
+        *entries = entries.wrapping_add(1);
+    };
+    let (fours, rest) = list.as_chunks::<4>();
+    fours.iter().for_each(|four| four.iter().for_each(&mut count));
+    rest.iter().for_each(count);
+}
+
+/// The length of the order, if checks 7, 19 and 8 pass. The root is first, if no entry names it. Then types are passed in their order: the entries of
+/// each are taken, and a type is appended as the last entry that names it is. Each child is stamped with its parent's place, from 1, which tells
+/// one that stands twice. If all entries are taken there is no cycle, and each type with a stamp is reached. Counts that run over do no harm: a
+/// type with children is named over 255 times only if it is a child twice or its own, and then some entry is not taken, or one twice.
+fn put_in_order(
+    records: &[Record],
+    list: &[u16],
+    root: usize,
+    untaken: &mut [u8; 256],
+    order: &mut Order,
+) -> Option<usize> {
+    if untaken[root & 255] != (records[root][1] == 0) as u8 {
+        return None;
+    }
+    let mut stamps = [0; 256];
+    stamps[root & 255] = u8::MAX;
+    order[0] = root as u8;
+    let (mut passed, mut length, mut taken) = (0, 1, 0);
+    while passed < length {
+        let kids = children(list, &records[order[passed & 255] as usize]);
+        passed += 1;
+        taken += kids.len();
         for &child in kids {
-            let place = &mut stamps[child as usize & 255];
-            if (child as usize >= e) | (child < stamp) | (*place == stamp) {
+            let x = child as usize & 255;
+            if stamps[x] == passed as u8 {
                 return None;
             }
-            *place = stamp;
+            stamps[x] = passed as u8;
+            let left = (untaken[x] as usize).wrapping_sub(1);
+            untaken[x] = left as u8;
+            order[length & 255] = child as u8;
+            length += (left == 0) as usize;
         }
     }
-    let orphans = stamps[1..e].iter().fold(false, |any, &stamp| any | (stamp == 0));
-    (rest.is_empty() & !orphans & (total <= MOST_PRIVILEGES)).then_some(total)
+    let unreached = stamps[..records.len()].iter().fold(false, |any, &stamp| any | (stamp == 0));
+    (!unreached & (taken == list.len())).then_some(length)
 }
+
+// ---------------------------------------------------------------- the checks by number
 
 /// The first of the checks 3 to 9 that fails, and the lowest place at which it does.
 #[cold]
-fn first_failing(records: &[Record], list: &[u16]) -> Refusal {
-    let e = records.len();
+fn first_failing(records: &[Record], list: &[u16], root: usize) -> Refusal {
     if let Some(t) = records.iter().position(|record| record[0] > STAR) {
         return (3, t);
     }
-    if let Some(t) = records.iter().position(|record| !count_fits(record)) {
+    let misfit = |it: &Record| it[1] > MOST_CHILDREN || privileges_of(it) == MISFIT as usize;
+    if let Some(t) = records.iter().position(misfit) {
         return (4, t);
     }
     let mut running = 0;
@@ -121,27 +202,145 @@ fn first_failing(records: &[Record], list: &[u16]) -> Refusal {
         running += record[1] as usize;
     }
     if running != list.len() {
-        return (5, e);
+        return (5, records.len());
     }
-    first_failing_child(records, list)
+    first_failing_child(records, list, root)
 }
 
-/// The same for the checks 6 to 9.
-fn first_failing_child(records: &[Record], list: &[u16]) -> Refusal {
+/// The same for the checks 6, 7, 19, 8 and 9.
+fn first_failing_child(records: &[Record], list: &[u16], root: usize) -> Refusal {
     let e = records.len();
-    let kids = |t: usize| &list[records[t][2] as usize..][..records[t][1] as usize];
-    let strays = |t: usize| kids(t).iter().any(|&x| x as usize >= e || x as usize <= t);
-    let twice = |t: usize| (1..kids(t).len()).any(|k| kids(t)[..k].contains(&kids(t)[k]));
-    if let Some(t) = (0..e).find(|&t| strays(t)) {
+    let kids = |t: usize| children(list, &records[t]).iter();
+    if let Some(t) = (0..e).find(|&t| kids(t).any(|&x| x as usize >= e)) {
         return (6, t);
     }
-    if let Some(t) = (0..e).find(|&t| twice(t)) {
+    let mut stamps = [0; 256];
+    let mut stamp = |x: u16, t: usize| replace(&mut stamps[x as usize & 255], t as u16 + 1);
+    if let Some(t) = (0..e).find(|&t| kids(t).any(|&x| stamp(x, t) == t as u16 + 1)) {
         return (7, t);
     }
-    if let Some(t) = (1..e).find(|&t| !list.contains(&(t as u16))) {
+    if let Some(t) = lowest_on_cycle(records, list) {
+        return (19, t);
+    }
+    if let Some(t) = lowest_unreached(records, list, root) {
         return (8, t);
     }
     (9, 0)
+}
+
+fn lowest_on_cycle(records: &[Record], list: &[u16]) -> Option<usize> {
+    let mut walk = Walk::new(records, list);
+    for t in 0..records.len() {
+        if !walk.is_met(t) {
+            walk.go_from(t);
+        }
+    }
+    walk.lowest
+}
+
+fn lowest_unreached(records: &[Record], list: &[u16], root: usize) -> Option<usize> {
+    let mut walk = Walk::new(records, list);
+    walk.go_from(root);
+    (0..records.len()).find(|&t| !walk.is_met(t))
+}
+
+/// The rank of a type that was not met, and of one that leads to no type of the path.
+const UNMET: u16 = 0;
+const CLOSED: u16 = u16::MAX;
+
+/// A walk from types to their children that finds the types on a cycle (Tarjan's). A type that was met is open until it is closed.
+struct Walk<'a> {
+    records: &'a [Record],
+    list: &'a [u16],
+    /// For each type its place among the open ones, from 1.
+    rank: [u16; 256],
+    /// For each type the lowest rank to which it is known to lead.
+    least: [u16; 256],
+    /// For each type how many of its children were passed.
+    passed: [u8; 256],
+    open: Stack,
+    /// The open types from the start to where the walk is, each a child of the one before.
+    path: Stack,
+    /// The lowest type found on a cycle.
+    lowest: Option<usize>,
+}
+
+impl Walk<'_> {
+    fn new<'a>(records: &'a [Record], list: &'a [u16]) -> Walk<'a> {
+        let (rank, least, passed) = ([UNMET; 256], [CLOSED; 256], [0; 256]);
+        let (open, path) = (Stack::EMPTY, Stack::EMPTY);
+        Walk { records, list, rank, least, passed, open, path, lowest: None }
+    }
+
+    fn is_met(&self, t: usize) -> bool {
+        self.rank[t & 255] != UNMET
+    }
+
+    /// Goes to all types below one that were not met before.
+    fn go_from(&mut self, start: usize) {
+        self.meet(start);
+        while let Some(t) = self.path.last() {
+            match self.next_unmet(t) {
+                Some(child) => self.meet(child),
+                None => self.leave(t),
+            }
+        }
+    }
+
+    /// Passes the children of a type up to one that was not met before.
+    fn next_unmet(&mut self, t: usize) -> Option<usize> {
+        let kids = children(self.list, &self.records[t]);
+        for &child in &kids[self.passed[t] as usize..] {
+            self.passed[t] += 1;
+            if !self.is_met(child as usize) {
+                return Some(child as usize);
+            }
+            self.least[t] = self.least[t].min(self.rank[child as usize & 255]);
+        }
+        None
+    }
+
+    fn meet(&mut self, t: usize) {
+        self.open.push(t);
+        self.path.push(t);
+        self.rank[t & 255] = self.open.size as u16;
+    }
+
+    /// Leaves a type whose children were all passed. It is on a cycle if it leads to itself or to an open type before it; if to none before it, it
+    /// is closed, and with it all types met since.
+    fn leave(&mut self, t: usize) {
+        let (rank, least) = (self.rank[t], self.least[t]);
+        if least <= rank {
+            self.lowest = Some(self.lowest.map_or(t, |lowest| lowest.min(t)));
+        }
+        if least >= rank {
+            let since = rank as usize - 1..self.open.size;
+            self.open.size = since.start;
+            self.open.types[since].iter().for_each(|&x| self.rank[x as usize] = CLOSED);
+        }
+        self.path.size -= 1;
+        if let Some(parent) = self.path.last() {
+            self.least[parent] = self.least[parent].min(least);
+        }
+    }
+}
+
+struct Stack {
+    types: [u8; 256],
+    size: usize,
+}
+
+impl Stack {
+    const EMPTY: Stack = Stack { types: [0; 256], size: 0 };
+
+    fn push(&mut self, t: usize) {
+        self.types[self.size] = t as u8;
+        self.size += 1;
+    }
+
+    fn last(&self) -> Option<usize> {
+        self.types[..self.size].last().map(|&t| t as usize)
+    }
 }
 
 // ---------------------------------------------------------------- marks
@@ -158,8 +357,12 @@ fn check_marks(marks: &[u8], v: usize, number: usize) -> Result<(), Refusal> {
     Err((number + 1, place))
 }
 
-fn read_policy<'a>(words: &'a [u16], marks: &[u8]) -> Result<Table<'a>, Refusal> {
-    let table = read_table(words)?;
+fn read_policy<'a>(
+    words: &'a [u16],
+    marks: &[u8],
+    order: &'a mut Order,
+) -> Result<Table<'a>, Refusal> {
+    let table = read_table(words, order)?;
     check_marks(marks, table.v, 10)?;
     Ok(table)
 }
@@ -198,20 +401,19 @@ struct Breach {
     privilege: usize,
 }
 
-/// For each type the lowest forbidden privilege below it.
-fn forbidden_lows(table: &Table, marks: &[u8]) -> [u16; 256] {
-    let mut low = [NONE; 256];
-    let mut until = table.v;
-    for (x, record) in table.records.iter().enumerate().rev() {
-        let first = until - privileges_of(record);
-        let mut least = lowest_forbidden(&marks[first..until], first);
-        for &child in table.children(record) {
-            least = least.min(low[child as usize & 255]);
-        }
-        low[x & 255] = least;
-        until = first;
+/// Fills in for each type the lowest forbidden privilege below it: first its own, then, from children to parents, with those below its children.
+fn fill_lows(table: &Table, marks: &[u8], low: &mut [u16; 256]) {
+    let mut first = 0;
+    for (record, own) in table.records.iter().zip(&mut *low) {
+        let until = first + privileges_of(record);
+        *own = lowest_forbidden(&marks[first..until], first);
+        first = until;
     }
-    low
+    for &x in table.order.iter().rev() {
+        let kids = table.children(&table.records[x as usize]);
+        let join = |least: u16, &child: &u16| least.min(low[child as usize & 255]);
+        low[x as usize] = kids.iter().fold(low[x as usize], join);
+    }
 }
 
 /// The replacements of a choice as 16 rows of 16 bits: row i, bit j.
@@ -319,7 +521,8 @@ fn star_breach(
 }
 
 fn first_breach(table: &Table, marks: &[u8]) -> Option<Breach> {
-    let low = forbidden_lows(table, marks);
+    let mut low = [NONE; 256];
+    fill_lows(table, marks, &mut low);
     let mut first = 0;
     for (x, record) in table.records.iter().enumerate() {
         let breach = match record[0] {
@@ -337,9 +540,11 @@ fn first_breach(table: &Table, marks: &[u8]) -> Option<Breach> {
 
 // ---------------------------------------------------------------- completing
 
-fn decide(marks: &[u8], out: &mut [u8]) {
-    for (to, &mark) in out.iter_mut().zip(marks) {
-        *to = if mark == ALLOWED { ALLOWED } else { FORBIDDEN };
+fn decided(allowed: bool) -> u8 {
+    if allowed {
+        ALLOWED
+    } else {
+        FORBIDDEN
     }
 }
 
@@ -383,27 +588,45 @@ fn complete_choice(
     write_choice(&reached, n, first, out);
 }
 
-/// Parents come before their children: each type is known to be opened or not when its turn comes.
+/// Fills in for each type its first privilege.
+fn fill_firsts(table: &Table, firsts: &mut [u16; 256]) {
+    let mut total = 0;
+    for (record, first) in table.records.iter().zip(firsts) {
+        *first = total;
+        total += privileges_of(record) as u16;
+    }
+}
+
+/// Parents come before their children: each type is known to be opened or not when its turn comes, and the texts when all others had theirs.
 fn complete_all(table: &Table, marks: &[u8], out: &mut [u8]) {
     let mut opened = [false; 256];
-    let mut first = 0;
-    for (x, record) in table.records.iter().enumerate() {
-        let until = first + privileges_of(record);
+    let mut firsts = [0; 256];
+    fill_firsts(table, &mut firsts);
+    for &x in table.order {
+        let record = &table.records[x as usize];
         let kids = table.children(record);
-        let whole = opened[x & 255];
-        if record[0] == CHOICE && !whole {
-            complete_choice(marks, kids, first, &mut opened, out);
-        } else {
-            if whole || (record[0] == STAR && both_allowed(marks, first)) {
+        let first = firsts[x as usize] as usize;
+        let own = first..first + privileges_of(record);
+        match record[0] {
+            _ if opened[x as usize] => {
                 kids.iter().for_each(|&child| opened[child as usize & 255] = true);
+                out[own].fill(ALLOWED);
             }
-            if whole {
-                out[first..until].fill(ALLOWED);
-            } else {
-                decide(&marks[first..until], &mut out[first..until]);
+            CHOICE => complete_choice(marks, kids, first, &mut opened, out),
+            STAR => {
+                let [insert, delete] = [first, first + 1].map(|p| marks[p] == ALLOWED);
+                opened[kids[0] as usize & 255] |= insert & delete;
+                out[first] = decided(insert);
+                out[first + 1] = decided(delete);
             }
+            _ => (),
         }
-        first = until;
+    }
+    for (x, record) in table.records.iter().enumerate() {
+        if record[0] == TEXT {
+            let first = firsts[x & 255] as usize;
+            out[first] = decided(opened[x & 255] | (marks[first] == ALLOWED));
+        }
     }
 }
 
@@ -441,7 +664,8 @@ fn mend_choice(m: &mut [u8], low: &[u16; 256], kids: &[u16], first: usize) -> us
 }
 
 fn mend_all(table: &Table, m: &mut [u8]) -> usize {
-    let low = forbidden_lows(table, m);
+    let mut low = [NONE; 256];
+    fill_lows(table, m, &mut low);
     let (mut first, mut count) = (0, 0);
     for record in table.records {
         let kids = table.children(record);
@@ -501,16 +725,19 @@ fn told(told: Told) -> Outcome {
 }
 
 pub fn check_table(words: &[u16]) -> Outcome {
-    told(read_table(words).map(|table| Outcome::refusal(0, table.v)).map_err(refused))
+    let mut order = [0; 256];
+    told(read_table(words, &mut order).map(|table| Outcome::refusal(0, table.v)).map_err(refused))
 }
 
 pub fn judge_policy(words: &[u16], marks: &[u8]) -> Outcome {
+    let mut order = [0; 256];
     let judge = |table| with_breach(0, first_breach(&table, marks));
-    told(read_policy(words, marks).map(judge).map_err(refused))
+    told(read_policy(words, marks, &mut order).map(judge).map_err(refused))
 }
 
 pub fn complete(words: &[u16], marks: &[u8], out: &mut [u8]) -> Outcome {
-    let table = match read_policy(words, marks) {
+    let mut order = [0; 256];
+    let table = match read_policy(words, marks, &mut order) {
         Ok(table) if table.v <= out.len() => table,
         Ok(_) => return Outcome::refusal(12, 0),
         Err(refusal) => return refused(refusal),
@@ -523,7 +750,8 @@ pub fn complete(words: &[u16], marks: &[u8], out: &mut [u8]) -> Outcome {
 }
 
 pub fn mend(words: &[u16], marks: &[u8], out: &mut [u8]) -> Outcome {
-    let table = match read_policy(words, marks) {
+    let mut order = [0; 256];
+    let table = match read_policy(words, marks, &mut order) {
         Ok(table) if table.v <= out.len() => table,
         Ok(_) => return Outcome::refusal(12, 0),
         Err(refusal) => return refused(refusal),
@@ -534,7 +762,8 @@ pub fn mend(words: &[u16], marks: &[u8], out: &mut [u8]) -> Outcome {
 }
 
 fn judge_proposal(words: &[u16], marks: &[u8], proposed: &[u8]) -> Result<Outcome, Refusal> {
-    let table = read_policy(words, marks)?;
+    let mut order = [0; 256];
+    let table = read_policy(words, marks, &mut order)?;
     check_marks(proposed, table.v, 13)?;
     if let Some(place) = lowest_change(marks, proposed) {
         return Err((15, place));

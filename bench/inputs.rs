@@ -1,4 +1,5 @@
-// What is measured: the sample, a table of ordinary size, the largest tables with the worst marks for each call, and tables that double.
+// What is measured: the sample, a table of ordinary size, the largest tables with the worst marks for each call, both with their types renumbered,
+// tables that are refused for a cycle or a type that is not reached, and tables that double.
 
 use crate::calls::{Call, Case};
 use crate::fast;
@@ -36,10 +37,10 @@ fn privileges_of(it: &Type) -> usize {
     }
 }
 
-fn encode(types: &[Type]) -> Vec<u16> {
+fn encode(types: &[Type], root: usize) -> Vec<u16> {
     let (e, c) = (types.len(), types.iter().map(|it| it.children.len()).sum::<usize>());
     let v: usize = types.iter().map(privileges_of).sum();
-    let header = [1, 8 + 3 * e + c, e, 0, 8, c, 8 + 3 * e, v];
+    let header = [1, 8 + 3 * e + c, e, root, 8, c, 8 + 3 * e, v];
     let mut words: Vec<u16> = header.iter().map(|&word| word as u16).collect();
     let mut first = 0;
     for it in types {
@@ -48,6 +49,13 @@ fn encode(types: &[Type]) -> Vec<u16> {
     }
     words.extend(types.iter().flat_map(|it| &it.children));
     words
+}
+
+fn decode(words: &[u16]) -> Vec<Type> {
+    let (records, list) = words[8..].split_at(3 * words[2] as usize);
+    let children = |record: &[u16]| list[record[2] as usize..][..record[1] as usize].to_vec();
+    let read = |record: &[u16]| Type { kind: record[0], children: children(record) };
+    records.chunks(3).map(read).collect()
 }
 
 /// E 40, C 39, V 200: choices of 6, 10 and 8, five stars, fourteen texts.
@@ -60,7 +68,7 @@ fn ordinary() -> Vec<u16> {
     add(CHOICE, (25..=32).collect());
     (33..=37).for_each(|child| add(STAR, vec![child]));
     (9..=39).for_each(|leaf| add(if leaf < 23 { TEXT } else { EMPTY }, Vec::new()));
-    encode(&types)
+    encode(&types, 0)
 }
 
 /// A table of e types and c child entries, whose last `choices` types with children are choices and the others sequences. A type with children
@@ -75,7 +83,7 @@ fn sized(e: usize, c: usize, choices: usize) -> Vec<u16> {
         let leaf = if t + 16 >= e { TEXT } else { EMPTY };
         types.push(Type { kind: if t < parents { kind } else { leaf }, children });
     }
-    encode(&types)
+    encode(&types, 0)
 }
 
 /// The children of type t: the next 16 that have no parent yet, and after those types without children, the last ones.
@@ -89,6 +97,34 @@ fn children_of(e: usize, parents: usize, t: usize) -> Vec<u16> {
     }
     children.sort();
     children
+}
+
+/// A largest table in which the search for a type on a cycle is longest, E 256, C 1,024. Only the root, 255, and type 254, which is below all others,
+/// are on one: each is its own child. Types 0 to 253 stand between the two, each above the next, and those with the most children come last, so
+/// that most entries are below each of them.
+fn cyclic() -> Vec<u16> {
+    let sequence = |children| Type { kind: SEQUENCE, children };
+    let mut types: Vec<Type> = (0..254).map(|t| sequence(next_ones(t))).collect();
+    types.extend([sequence(vec![254]), sequence(vec![0, 255])]);
+    encode(&types, 255)
+}
+
+/// The children of type t: the next one; the next three, of type 194; the next 16, as far as there are any up to 254, from 195 on.
+fn next_ones(t: u16) -> Vec<u16> {
+    let count = match t {
+        0..=193 => 1,
+        194 => 3,
+        _ => 16,
+    };
+    (t + 1..=254).take(count).collect()
+}
+
+/// A largest table, E 256, C 1,024, V 4,096, with two types that are not reached: 255, which is nobody's child, and its child 254.
+fn unreached() -> Vec<u16> {
+    let mut types = decode(&sized(254, 1008, 17));
+    types.push(Type { kind: EMPTY, children: Vec::new() });
+    types.push(Type { kind: SEQUENCE, children: (239..=254).collect() });
+    encode(&types, 0)
 }
 
 // ---------------------------------------------------------------- marks
@@ -106,14 +142,19 @@ fn at_each_choice(words: &[u16], square: impl Fn(usize, usize) -> u8, texts: [u8
     marks
 }
 
-/// Marks by chance, out of an urn; the same ones for the same seed.
-fn by_chance(v: usize, urn: &[u8], seed: u64) -> Vec<u8> {
+/// Numbers by chance; the same ones for the same seed.
+fn chance(seed: u64) -> impl FnMut() -> usize {
     let mut state = seed;
-    let mut next = || {
+    move || {
         state = state.wrapping_mul(6364136223846793005).wrapping_add(1442695040888963407);
-        urn[(state >> 33) as usize % urn.len()]
-    };
-    (0..v).map(|_| next()).collect()
+        (state >> 33) as usize
+    }
+}
+
+/// Marks by chance, out of an urn.
+fn by_chance(v: usize, urn: &[u8], seed: u64) -> Vec<u8> {
+    let mut next = chance(seed);
+    (0..v).map(|_| urn[next() % urn.len()]).collect()
 }
 
 fn mended(words: &[u16], marks: &[u8]) -> Vec<u8> {
@@ -125,6 +166,40 @@ fn mended(words: &[u16], marks: &[u8]) -> Vec<u8> {
 fn case(words: Vec<u16>, marks: Vec<u8>, proposed: Vec<u8>) -> Case {
     let out = vec![UNSET; marks.len()];
     Case { words, marks, out, proposed }
+}
+
+// ---------------------------------------------------------------- renumbering
+
+/// The numbers below e in an order by chance.
+fn shuffled(e: usize, seed: u64) -> Vec<usize> {
+    let mut next = chance(seed);
+    let mut order: Vec<usize> = (0..e).collect();
+    (1..e).rev().for_each(|k| order.swap(k, next() % (k + 1)));
+    order
+}
+
+/// Marks as they stand when the types stand in an order.
+fn reordered(types: &[Type], order: &[usize], marks: &[u8]) -> Vec<u8> {
+    let first = |t: usize| types[..t].iter().map(privileges_of).sum::<usize>();
+    let own = |&t: &usize| &marks[first(t)..][..privileges_of(&types[t])];
+    order.iter().flat_map(own).copied().collect()
+}
+
+/// A case with its types renumbered by chance, the root among them; each keeps its rule, the order of its children, and its marks.
+fn renumbered(Case { words, marks, proposed, .. }: Case) -> Case {
+    let types = decode(&words);
+    let order = shuffled(types.len(), 2);
+    let number = |old: u16| order.iter().position(|&t| t == old as usize).unwrap_or(0) as u16;
+    let children = |t: usize| types[t].children.iter().map(|&x| number(x)).collect();
+    let moved = |&t: &usize| Type { kind: types[t].kind, children: children(t) };
+    let moved: Vec<Type> = order.iter().map(moved).collect();
+    let kept = |marks: &[u8]| reordered(&types, &order, marks);
+    case(encode(&moved, number(words[3]) as usize), kept(&marks), kept(&proposed))
+}
+
+fn renumbered_input(Input { name, cases }: Input) -> Input {
+    let name = format!("{}-renumbered", name);
+    Input { name, cases: cases.into_iter().map(renumbered).collect() }
 }
 
 // ---------------------------------------------------------------- inputs
@@ -236,13 +311,26 @@ fn largest(call: Call) -> Vec<Input> {
     if call == Call::JudgeMend {
         all.push(input("half-changed", vec![half_changed(words())]));
     }
+    all.push(renumbered_input(input("largest", vec![worst(call, words())])));
     all
+}
+
+/// Tables that pass every check before the one that refuses them.
+fn refused() -> Vec<Input> {
+    let input = |name: &str, words| Input {
+        name: name.to_string(),
+        cases: vec![case(words, Vec::new(), Vec::new())],
+    };
+    vec![input("cyclic", cyclic()), input("unreached", unreached())]
 }
 
 /// The inputs of a call.
 pub fn inputs(call: Call) -> Vec<Input> {
-    let mut all = vec![sample(), ordinary_input(call)];
+    let mut all = vec![sample(), ordinary_input(call), renumbered_input(ordinary_input(call))];
     all.extend(largest(call));
+    if call == Call::CheckTable {
+        all.extend(refused());
+    }
     all
 }
 

@@ -14,11 +14,11 @@
  *     word 0  format, 1                        word 4  offset of the type records, 8
  *     word 1  number of words, 8 + 3E + C      word 5  number of child entries C, 0 to 1024
  *     word 2  number of types E, 1 to 256      word 6  offset of the child list, 8 + 3E
- *     word 3  root type, 0                     word 7  number of privileges V, 0 to 4096
+ *     word 3  root type, below E               word 7  number of privileges V, 0 to 4096
  *   A type's three words: its kind (0 empty, 1 text, 2 sequence, 3 choice, 4 star), its number of children, and the index of its first
  *   child in the child list. Stretches of children follow one another in type order with no gap. Empty and text have no child, star has
- *   one, sequence and choice have 1 to 16, all different. A child's number is below E and greater than its parent's, and every type but
- *   0 is somebody's child.
+ *   one, sequence and choice have 1 to 16, all different. Types stand in any order: a child's number is below E, no type is on a cycle
+ *   (below one of its own children), and every type is reached from the root by going from types to their children.
  *
  * The privileges
  *   Numbered from 0, types in ascending order. Empty and sequence have none. Text has one: change the text. Star has two: insert, then
@@ -45,7 +45,7 @@ enum {
     FINNEDSCARF_FORBIDDEN = 2
 };
 
-/* The number of an answer. Checks are made in this order; the place is the lowest at which the check fails, 0 where none is named. */
+/* The number of an answer. Checks are made in the order of these lines, 19 between 7 and 8; the place is the lowest at which the check fails, 0 where none is named. */
 enum {
     FINNEDSCARF_DONE = 0,             /* done; place: V for a table, else 0 */
     FINNEDSCARF_FORMAT = 1,           /* under 8 words lent, or word 0 is not 1 */
@@ -53,9 +53,10 @@ enum {
     FINNEDSCARF_KIND = 3,             /* kind above 4; place: type */
     FINNEDSCARF_COUNT = 4,            /* child count wrong for the kind; place: type */
     FINNEDSCARF_STRETCH = 5,          /* first child is not the running index; place: type, or E if the total isn't C */
-    FINNEDSCARF_BOUNDS = 6,           /* child not below E or not above its parent; place: parent */
+    FINNEDSCARF_BOUNDS = 6,           /* child not below E; place: parent */
     FINNEDSCARF_TWICE = 7,            /* the same child twice; place: parent */
-    FINNEDSCARF_ORPHAN = 8,           /* a type other than 0 that is nobody's child; place: type */
+    FINNEDSCARF_ON_CYCLE = 19,        /* a type on a cycle; place: type */
+    FINNEDSCARF_ORPHAN = 8,           /* a type that is not reached from the root; place: type */
     FINNEDSCARF_TOTAL = 9,            /* V is over 4096 or word 7 is not V */
     FINNEDSCARF_MARKS_LENGTH = 10,    /* marks not V long */
     FINNEDSCARF_MARK = 11,            /* a mark above 2; place: privilege */
@@ -86,25 +87,25 @@ typedef struct {
     size_t privilege; /* the forbidden replacement for condition 2, else the lowest forbidden privilege below the child */
 } finnedscarf_outcome;
 
-/* Checks a table: 0 with V as place, or 1 to 9. */
+/* Checks a table: 0 with V as place, or 1 to 9 or 19. */
 finnedscarf_outcome finnedscarf_check_table(const uint16_t *words, size_t words_length);
 
 /*
- * Judges a policy: 0 with the first breach, five zeros if it is clean, or 1 to 11. The first is that of the lowest type; there condition 2
+ * Judges a policy: 0 with the first breach, five zeros if it is clean, or 1 to 11 or 19. The first is that of the lowest type; there condition 2
  * comes before 3, and then the lowest i, and then the lowest j.
  */
 finnedscarf_outcome finnedscarf_judge_policy(const uint16_t *words, size_t words_length, const uint8_t *marks, size_t marks_length);
 
 /*
  * Completes a policy: 0 with the least fully decided policy that keeps every set mark and is clean in the first V bytes of `out`, or 1 to
- * 12 or 16. A refusal leaves `out` as it was; else its bytes from V on are kept.
+ * 12, 16 or 19. A refusal leaves `out` as it was; else its bytes from V on are kept.
  */
 finnedscarf_outcome finnedscarf_complete(const uint16_t *words, size_t words_length, const uint8_t *marks, size_t marks_length,
                                          uint8_t *out, size_t out_length);
 
 /*
  * Mends a policy: 0 with a clean policy in the first V bytes of `out`, in which `count` marks went from allowed to forbidden and all
- * others are equal, or 1 to 12. A refusal leaves `out` as it was; else its bytes from V on are kept. The rule, until the policy is clean:
+ * others are equal, or 1 to 12 or 19. A refusal leaves `out` as it was; else its bytes from V on are kept. The rule, until the policy is clean:
  * for the first breach forbid, if of condition 1, the delete; else the replacement of i by the lowest k such that it is allowed, and k is j
  * or allowed replacements lead from k to j.
  */
@@ -113,7 +114,7 @@ finnedscarf_outcome finnedscarf_mend(const uint16_t *words, size_t words_length,
 
 /*
  * Judges a mend that somebody proposes: 0 with the number of changed marks as `count` if each mark is equal or went from allowed to
- * forbidden and the proposed policy is clean, or 1 to 11 or 13 to 16.
+ * forbidden and the proposed policy is clean, or 1 to 11, 13 to 16 or 19.
  */
 finnedscarf_outcome finnedscarf_judge_mend(const uint16_t *words, size_t words_length, const uint8_t *marks, size_t marks_length,
                                            const uint8_t *proposed, size_t proposed_length);

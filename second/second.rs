@@ -1,4 +1,4 @@
-// A second policy checker, written from document 01 alone, by sets and searches.
+// A second policy checker, written from documents 01 and 02 alone, by sets and searches.
 // It exists to be compared with the proved one: see README.md for its modes.
 
 use std::io::{Read, Write};
@@ -159,7 +159,7 @@ fn header_fits(words: &[u16]) -> bool {
     let (e, c) = (word(2), word(5));
     word(1) == HEADER + RECORD * e + c
         && (1..=MOST_TYPES).contains(&e)
-        && word(3) == 0
+        && word(3) < e
         && word(4) == HEADER
         && c <= MOST_ENTRIES
         && word(6) == HEADER + RECORD * e
@@ -196,15 +196,21 @@ fn check_records(words: &[u16]) -> Result<Vec<Type>, Answer> {
     Ok((0..e).map(|t| Type { kind: kinds[t], children: children(t) }).collect())
 }
 
-/// Numbers 1 to 9.
+/// A type on a cycle has itself below one of its children.
+fn on_cycle(types: &[Type], t: usize) -> bool {
+    types[t].children.iter().any(|&child| types_below(types, child)[t])
+}
+
+/// Numbers 1 to 7, then 19, then 8 and 9.
 fn check_table(words: &[u16]) -> Result<Table, Answer> {
     let types = check_records(words)?;
     let e = types.len();
-    let strays = |t: usize| types[t].children.iter().any(|&x| x >= e || x <= t);
-    let has_parent = |t: usize| types.iter().any(|parent| parent.children.contains(&t));
+    let strays = |t: usize| types[t].children.iter().any(|&x| x >= e);
     refuse_at(6, (0..e).find(|&t| strays(t)))?;
     refuse_at(7, (0..e).find(|&t| has_twice(&types[t].children)))?;
-    refuse_at(8, (1..e).find(|&t| !has_parent(t)))?;
+    refuse_at(19, (0..e).find(|&t| on_cycle(&types, t)))?;
+    let below_root = types_below(&types, words[3] as usize);
+    refuse_at(8, (0..e).find(|&t| !below_root[t]))?;
     let v = total(&types);
     refuse_if(9, v > MOST_PRIVILEGES || words[7] as usize != v)?;
     Ok(Table::of(types))
@@ -323,7 +329,7 @@ fn check(words: &[u16]) -> Outcome {
     Ok(Answer { place: table.v(), ..Answer::default() })
 }
 
-/// Numbers 1 to 11.
+/// The table's numbers, then 10 and 11.
 fn check_policy(words: &[u16], marks: &[u8]) -> Result<Table, Answer> {
     let table = check_table(words)?;
     refuse_if(10, marks.len() != table.v())?;
@@ -541,21 +547,30 @@ fn answers(stream: &[u8]) -> String {
 
 /// A call's name, the numbers it can give, and whether its answer can hold a breach.
 const CALLS: [(&str, &[usize], bool); 5] = [
-    ("check", &[0, 1, 2, 3, 4, 5, 6, 7, 8, 9], false),
-    ("verdict", &[0, 1, 2, 3, 4, 5, 6, 7, 8, 9, 10, 11], true),
-    ("complete", &[0, 1, 2, 3, 4, 5, 6, 7, 8, 9, 10, 11, 12, 16], true),
-    ("mend", &[0, 1, 2, 3, 4, 5, 6, 7, 8, 9, 10, 11, 12], false),
-    ("propose", &[0, 1, 2, 3, 4, 5, 6, 7, 8, 9, 10, 11, 13, 14, 15, 16], true),
+    ("check", &[0, 1, 2, 3, 4, 5, 6, 7, 19, 8, 9], false),
+    ("verdict", &[0, 1, 2, 3, 4, 5, 6, 7, 19, 8, 9, 10, 11], true),
+    ("complete", &[0, 1, 2, 3, 4, 5, 6, 7, 19, 8, 9, 10, 11, 12, 16], true),
+    ("mend", &[0, 1, 2, 3, 4, 5, 6, 7, 19, 8, 9, 10, 11, 12], false),
+    ("propose", &[0, 1, 2, 3, 4, 5, 6, 7, 19, 8, 9, 10, 11, 13, 14, 15, 16], true),
 ];
+
+/// The numbers in the order of the checks.
+const NUMBERS: [usize; 18] = [0, 1, 2, 3, 4, 5, 6, 7, 19, 8, 9, 10, 11, 12, 13, 14, 15, 16];
+const HIGHEST_NUMBER: usize = 19;
 
 fn count_line(name: &str, numbers: &[usize], conditions: &[usize]) -> String {
     let cells = |counts: &[usize]| counts.iter().map(|n| format!("{:>5}", n)).collect::<String>();
     format!("{:<9}{} |{}\n", name, cells(numbers), cells(&conditions[1..]))
 }
 
+/// What was counted of each of the numbers named.
+fn counted(counts: &[usize], numbers: &[usize]) -> Vec<usize> {
+    numbers.iter().map(|&number| counts[number]).collect()
+}
+
 /// How often each call gave each number (before the bar) and each condition (after it).
 fn count(stream: &[u8]) -> String {
-    let mut numbers = [[0; 17]; 5];
+    let mut numbers = [[0; HIGHEST_NUMBER + 1]; 5];
     let mut conditions = [[0; 4]; 5];
     for told in read_cases(stream).iter().map(tell) {
         let all = [told.check, told.verdict, told.complete, told.mend, told.propose];
@@ -564,11 +579,11 @@ fn count(stream: &[u8]) -> String {
             conditions[call][answer.breach.condition] += 1;
         }
     }
-    let mut text = count_line("", &(0..17).collect::<Vec<_>>(), &[0, 1, 2, 3]);
+    let mut text = count_line("", &NUMBERS, &[0, 1, 2, 3]);
     let mut fewest = usize::MAX;
     for (call, &(name, possible, breaches)) in CALLS.iter().enumerate() {
-        text += &count_line(name, &numbers[call], &conditions[call]);
-        let least_number = possible.iter().map(|&number| numbers[call][number]).min();
+        text += &count_line(name, &counted(&numbers[call], &NUMBERS), &conditions[call]);
+        let least_number = counted(&numbers[call], possible).into_iter().min();
         let least_condition = conditions[call][1..].iter().copied().filter(|_| breaches).min();
         fewest = fewest.min(least_number.unwrap_or(0)).min(least_condition.unwrap_or(usize::MAX));
     }
@@ -584,9 +599,12 @@ fn found(file: &[u8]) -> Answer {
     answer(verdict(&words, marks))
 }
 
-/// What a file can come to, as number and condition: 1 to 11, clean, and the three conditions.
+/// The numbers that judge can find, in the order of the checks.
+const FOUND: [usize; 13] = [0, 1, 2, 3, 4, 5, 6, 7, 19, 8, 9, 10, 11];
+
+/// What a file can come to, as number and condition: the refusals, clean, and the three conditions.
 fn outcomes() -> Vec<(usize, usize)> {
-    let refusals = (1..=11).map(|number| (number, 0));
+    let refusals = FOUND[1..].iter().map(|&number| (number, 0));
     refusals.chain((0..=3).map(|condition| (0, condition))).collect()
 }
 
@@ -600,7 +618,7 @@ fn count_files(stream: &[u8]) -> String {
     let files = read_files(stream);
     let all: Vec<(usize, usize)> = files.iter().map(|file| outcome(file)).collect();
     let of = |wanted: &(usize, usize)| all.iter().filter(|&one| one == wanted).count();
-    let mut numbers = [0; 12];
+    let mut numbers = [0; HIGHEST_NUMBER + 1];
     let mut conditions = [0; 4];
     for &(number, condition) in &all {
         numbers[number] += 1;
@@ -611,9 +629,9 @@ fn count_files(stream: &[u8]) -> String {
     let longest = files.iter().map(|file| file.len()).max().unwrap_or(0);
     let long = |length: usize| files.iter().filter(|file| file.len() == length).count();
     [
-        count_line("", &(0..12).collect::<Vec<_>>(), &[0, 1, 2, 3]),
-        count_line("judge", &numbers, &conditions),
-        format!("fewest of 1 to 11, clean and the three conditions: {}\n", fewest),
+        count_line("", &FOUND, &[0, 1, 2, 3]),
+        count_line("judge", &counted(&numbers, &FOUND), &conditions),
+        format!("fewest of the refusals, clean and the three conditions: {}\n", fewest),
         format!("{} files, {} bytes, the longest {}; ", files.len(), bytes, longest),
         format!("{} of 8,192 bytes, {} of 8,193\n", long(MOST_BYTES), long(MOST_BYTES + 1)),
     ]
@@ -797,12 +815,21 @@ fn full_ladder(r: &mut Random) -> Vec<Type> {
     types
 }
 
+/// 256 types, each but the last with the next one as its only child; few of them are stars.
+fn long_chain(r: &mut Random) -> Vec<Type> {
+    let mut types = grown_to(r, MOST_TYPES, 1, 0);
+    for it in types.iter_mut().filter(|it| it.kind == STAR) {
+        it.kind = if r.one_in(8) { STAR } else { SEQUENCE };
+    }
+    types
+}
+
 fn shape(r: &mut Random) -> Vec<Type> {
-    if r.one_in(300) {
+    if r.one_in(600) {
         let most = r.pick(&[MOST_PRIVILEGES, MOST_PRIVILEGES, MOST_PRIVILEGES - 1, 2500]);
         return large(r, most);
     }
-    if r.one_in(600) {
+    if r.one_in(1200) {
         return full_ladder(r);
     }
     usual_shape(r)
@@ -837,6 +864,161 @@ fn encode(types: &[Type]) -> Vec<u16> {
 
 fn entries_before(types: &[Type], t: usize) -> usize {
     types[..t].iter().map(|it| it.children.len()).sum()
+}
+
+// ---------------------------------------------------------------- numbering types
+
+/// Types in any numbering, and which of them is the root. (A shape is types alone: its root is
+/// type 0, and each child has a greater number than its parent.)
+struct Schema {
+    root: usize,
+    types: Vec<Type>,
+}
+
+impl Schema {
+    /// Type 0 is the root.
+    fn of(types: Vec<Type>) -> Schema {
+        Schema { root: 0, types }
+    }
+
+    fn words(&self) -> Vec<u16> {
+        let mut words = encode(&self.types);
+        words[3] = self.root as u16;
+        words
+    }
+
+    /// The same schema where type t has the number numbers[t]; children keep their order.
+    fn renumbered(&self, numbers: &[usize]) -> Schema {
+        let mut types = self.types.clone();
+        for (t, it) in self.types.iter().enumerate() {
+            let children = it.children.iter().map(|&x| numbers[x]).collect();
+            types[numbers[t]] = Type { kind: it.kind, children };
+        }
+        Schema { root: numbers[self.root], types }
+    }
+
+    fn backwards(&self) -> Schema {
+        let numbers: Vec<usize> = (0..self.types.len()).rev().collect();
+        self.renumbered(&numbers)
+    }
+
+    fn by_chance(&self, r: &mut Random) -> Schema {
+        self.renumbered(&chance_numbers(r, self.types.len()))
+    }
+}
+
+fn chance_numbers(r: &mut Random, e: usize) -> Vec<usize> {
+    let mut numbers: Vec<usize> = (0..e).collect();
+    r.shuffle(&mut numbers);
+    numbers
+}
+
+/// A shape with its own numbers, with those backwards, or with numbers by chance.
+fn numbered(r: &mut Random, types: Vec<Type>) -> Schema {
+    let schema = Schema::of(types);
+    match r.below(16) {
+        0..=6 => schema,
+        7 | 8 => schema.backwards(),
+        _ => schema.by_chance(r),
+    }
+}
+
+fn schema(r: &mut Random) -> Schema {
+    let types = shape(r);
+    numbered(r, types)
+}
+
+// ---------------------------------------------------------------- cycles, and types not reached
+
+/// Adds a cycle of n types, each with the next as a child and the last with the first. As a rule
+/// one of the types before has one of them as a child.
+fn add_cycle(r: &mut Random, lists: &mut Lists, n: usize) {
+    let first = lists.len();
+    lists.extend((0..n).map(|k| vec![first + (k + 1) % n]));
+    if first > 0 && r.below(3) > 0 {
+        let parent = r.below(first);
+        lists[parent].push(first + r.below(n));
+    }
+}
+
+/// A few types, then cycles with further types below them, those of a later cycle among them;
+/// sometimes further children, so that cycles have types in common.
+fn cyclic(r: &mut Random) -> Schema {
+    let mut lists = Lists::new();
+    let above = 1 + r.below(4);
+    grow(r, &mut lists, above, 2);
+    for _ in 0..r.pick(&[1, 1, 1, 2, 3]) {
+        let n = r.pick(&[1, 2, 3, 16]);
+        add_cycle(r, &mut lists, n);
+        let e = lists.len() + r.below(4);
+        grow(r, &mut lists, e, n);
+    }
+    let tries = r.pick(&[0, 0, 8]);
+    share(r, &mut lists, tries);
+    Schema::of(dress(r, lists)).by_chance(r)
+}
+
+/// 256 types on one cycle, or all but so many before it.
+fn long_cycle(r: &mut Random, before: usize) -> Schema {
+    let mut lists = Lists::new();
+    grow(r, &mut lists, before, 1);
+    add_cycle(r, &mut lists, MOST_TYPES - before);
+    Schema::of(dress(r, lists)).by_chance(r)
+}
+
+/// Up to seven types with any of them as children.
+fn tangled(r: &mut Random) -> Schema {
+    let e = 1 + r.below(7);
+    let mut lists = Lists::new();
+    for _ in 0..e {
+        let mut children = chance_numbers(r, e);
+        children.truncate(r.pick(&[0, 0, 1, 1, 2, 3]));
+        lists.push(children);
+    }
+    Schema::of(dress(r, lists))
+}
+
+/// One more child: of a type, one that it is below. What is between them is on a cycle.
+fn closed(r: &mut Random, schema: &Schema) -> Schema {
+    let mut types = schema.types.clone();
+    let child = r.below(types.len());
+    let below = types_below(&types, child);
+    let parents: Vec<usize> = (0..types.len()).filter(|&t| below[t]).collect();
+    let parent = r.pick(&parents);
+    let mut children = types[parent].children.clone();
+    children.insert(r.below(children.len() + 1), child);
+    types[parent] = Type { kind: kind_for(r, children.len()), children };
+    Schema { root: schema.root, types }
+}
+
+/// The same types with any of them as the root.
+fn uprooted(r: &mut Random, schema: &Schema) -> Schema {
+    Schema { root: r.below(schema.types.len()), types: schema.types.clone() }
+}
+
+/// One to three further types that the root does not reach: some are nobody's child, some are
+/// children of such a one, and some have children that the root reaches.
+fn with_orphans(r: &mut Random, schema: &Schema) -> Schema {
+    let mut types = schema.types.clone();
+    for _ in 0..1 + r.below(3) {
+        let child = r.below(types.len());
+        let children = if r.one_in(3) { Vec::new() } else { vec![child] };
+        types.push(Type { kind: kind_for(r, children.len()), children });
+    }
+    Schema { root: schema.root, types }.by_chance(r)
+}
+
+/// A table with a type on a cycle or one that the root does not reach.
+fn unsound(r: &mut Random, schema: &Schema) -> Schema {
+    let few = 1 + r.below(2);
+    match r.below(64) {
+        0 => long_cycle(r, few),
+        1..=23 => cyclic(r),
+        24..=31 => closed(r, schema),
+        32..=42 => tangled(r),
+        43..=53 => uprooted(r, schema),
+        _ => with_orphans(r, schema),
+    }
 }
 
 // ---------------------------------------------------------------- making policies
@@ -962,11 +1144,19 @@ fn stretch(r: &mut Random, types: &[Type], fewest: usize) -> Option<(usize, usiz
     Some((t, first, types[t].children.len()))
 }
 
+/// A child that is no type.
+fn bend_out(r: &mut Random, types: &[Type], words: &mut [u16]) {
+    if let Some((_, first, n)) = stretch(r, types, 1) {
+        let over = r.pick(&[0, 0, 1, 300]);
+        words[first + r.below(n)] = (types.len() + r.below(over + 1)) as u16;
+    }
+}
+
+/// Another type as a child, or the parent itself.
 fn bend_child(r: &mut Random, types: &[Type], words: &mut [u16]) {
-    let e = types.len();
     if let Some((parent, first, n)) = stretch(r, types, 1) {
-        let wrong = [e, e + r.below(300), parent, r.below(parent + 1), r.below(e)];
-        words[first + r.below(n)] = r.pick(&wrong) as u16;
+        let other = r.below(types.len());
+        words[first + r.below(n)] = r.pick(&[parent, other, other]) as u16;
     }
 }
 
@@ -981,19 +1171,28 @@ fn bend_word(r: &mut Random, words: &mut [u16], at: usize) {
     words[at] = other_word(r, words[at]);
 }
 
+/// A root that is no type, most often E, or another type as the root.
+fn bend_root(r: &mut Random, types: &[Type], words: &mut [u16]) {
+    let e = types.len();
+    let other = r.below(e);
+    words[3] = r.pick(&[e, e, e, e + 1, 65535, other]) as u16;
+}
+
 /// Changes words in place, the length kept.
 fn bend(r: &mut Random, types: &[Type], words: &mut [u16]) {
     let record = HEADER + RECORD * r.below(types.len());
     let any = r.next() as u16;
-    match r.below(12) {
+    match r.below(14) {
         0 => bend_word(r, words, any as usize % words.len()),
         1 | 2 => bend_word(r, words, any as usize % HEADER),
-        3 => bend_word(r, words, 7),
-        4 => bend_word(r, words, record + 1),
-        5 => bend_word(r, words, record + 2),
-        6 => words[record] = STAR + 1 + any % 4,
-        7 => words[record] = any % (STAR + 1),
-        8 | 9 => bend_child(r, types, words),
+        3 | 4 => bend_word(r, words, 7),
+        5 => bend_word(r, words, record + 1),
+        6 => bend_word(r, words, record + 2),
+        7 => words[record] = STAR + 1 + any % 4,
+        8 => words[record] = any % (STAR + 1),
+        9 => bend_out(r, types, words),
+        10 => bend_child(r, types, words),
+        11 => bend_root(r, types, words),
         _ => bend_twice(r, types, words),
     }
 }
@@ -1010,15 +1209,6 @@ fn unbalanced(r: &mut Random, mut words: Vec<u16>) -> Vec<u16> {
         words[5] += 1;
     }
     words
-}
-
-/// One or two types at the end that are nobody's child.
-fn with_orphan(r: &mut Random, types: &[Type]) -> Vec<u16> {
-    let mut types = types.to_vec();
-    for _ in 0..1 + r.below(2) {
-        types.push(Type { kind: kind_for(r, 0), children: Vec::new() });
-    }
-    encode(&types)
 }
 
 /// The full ladder with one leaf a star of an empty type: V is 4,097.
@@ -1046,41 +1236,71 @@ fn long_list() -> Lists {
     lists
 }
 
-/// A table with every count in keeping but one that is over what document 01 grants.
+/// A table with every count in keeping but one that is over what document 01 grants; sometimes
+/// with a cycle or with another root besides.
 fn oversized(r: &mut Random) -> Vec<u16> {
     let types = match r.below(16) {
         0 => grown_to(r, MOST_TYPES + 1, 3, 0),
         1 => dress(r, long_list()),
-        2 => Vec::new(),
+        2 => return encode(&[]),
         3..=5 => one_over(r),
         6..=8 => many_over(r),
         _ => dress(r, ladder(2, MOST_CHILDREN + 1)),
     };
-    encode(&types)
+    let schema = numbered(r, types);
+    let schema = match r.below(4) {
+        0 => closed(r, &schema),
+        1 => uprooted(r, &schema),
+        _ => schema,
+    };
+    schema.words()
 }
 
 /// Another run of words, as a rule of another length.
-fn resized(r: &mut Random, types: &[Type], mut words: Vec<u16>) -> Vec<u16> {
+fn resized(r: &mut Random, mut words: Vec<u16>) -> Vec<u16> {
     let at = r.below(words.len());
-    match r.below(12) {
+    match r.below(10) {
         0 => drop(words.remove(at)),
         1 => words.insert(at, r.next() as u16 % 20),
         2 => words.push(r.next() as u16 % 20),
         3 => words.truncate(r.pick(&[at, 0, 1, 2, 7, 8])),
         4 => words = (0..r.below(40)).map(|_| r.next() as u16 % 9).collect(),
         5 | 6 => words = unbalanced(r, words),
-        7 | 8 => words = with_orphan(r, types),
         _ => words = oversized(r),
     }
     words
 }
 
-fn spoil_table(r: &mut Random, types: &[Type], case: &mut Case) {
+/// A fault that another check than 19 and 8 finds, so that the order of the checks decides.
+fn bend_beside(r: &mut Random, types: &[Type], words: &mut [u16]) {
+    match r.below(8) {
+        0..=2 => bend_out(r, types, words),
+        3 | 4 => bend_twice(r, types, words),
+        5 => bend_root(r, types, words),
+        _ => bend_word(r, words, 7),
+    }
+}
+
+/// An unsound table, in half of the cases with such a fault too.
+fn unsound_words(r: &mut Random, schema: &Schema) -> Vec<u16> {
+    let wrong = unsound(r, schema);
+    let mut words = wrong.words();
+    if r.one_in(2) {
+        bend_beside(r, &wrong.types, &mut words);
+    }
+    words
+}
+
+fn spoil_table(r: &mut Random, schema: &Schema, case: &mut Case) {
+    if r.below(5) < 2 {
+        case.words = unsound_words(r, schema);
+        return;
+    }
     for _ in 0..r.pick(&[0, 1, 1, 1, 2, 3]) {
-        bend(r, types, &mut case.words);
+        bend(r, &schema.types, &mut case.words);
     }
     if r.one_in(3) {
-        case.words = resized(r, types, case.words.clone());
+        case.words = resized(r, case.words.clone());
     }
 }
 
@@ -1105,13 +1325,13 @@ fn spoil_file(r: &mut Random, case: &mut Case) {
     case.marks.resize(length, UNSET);
 }
 
-fn spoil(r: &mut Random, types: &[Type], case: &mut Case) {
+fn spoil(r: &mut Random, schema: &Schema, case: &mut Case) {
     if r.one_in(600) {
         return spoil_file(r, case);
     }
-    let (table, marks, proposed) = (r.below(20) < 7, r.one_in(10), r.one_in(8));
+    let (table, marks, proposed) = (r.below(20) < 8, r.one_in(10), r.one_in(8));
     if table {
-        spoil_table(r, types, case);
+        spoil_table(r, schema, case);
     }
     if marks {
         spoil_marks(r, &mut case.marks);
@@ -1121,27 +1341,61 @@ fn spoil(r: &mut Random, types: &[Type], case: &mut Case) {
     }
 }
 
-fn make_case(r: &mut Random) -> Case {
-    let types = shape(r);
-    case_of(r, &types)
-}
-
-fn case_of(r: &mut Random, types: &[Type]) -> Case {
-    let words = encode(types);
-    let table = check_table(&words).expect("a shape is an accepted table");
+fn sound_case(r: &mut Random, schema: &Schema) -> Case {
+    let words = schema.words();
+    let table = check_table(&words).expect("a shape is accepted in every numbering");
     let marks = policy(r, &table);
     let proposed = proposal(r, &table, &marks);
     let out = lent(r, table.v());
-    let mut case = Case { words, marks, out, proposed };
-    spoil(r, types, &mut case);
+    Case { words, marks, out, proposed }
+}
+
+fn case_of(r: &mut Random, schema: &Schema) -> Case {
+    let mut case = sound_case(r, schema);
+    spoil(r, schema, &mut case);
     case
+}
+
+/// 256 types in a chain, each with a greater number than its child or with numbers by chance.
+fn chain_case(r: &mut Random, descending: bool) -> Case {
+    let chain = Schema::of(long_chain(r));
+    let chain = if descending { chain.backwards() } else { chain.by_chance(r) };
+    sound_case(r, &chain)
+}
+
+fn cycle_case(r: &mut Random) -> Case {
+    let schema = schema(r);
+    Case { words: long_cycle(r, 0).words(), ..sound_case(r, &schema) }
+}
+
+/// As many privileges as there may be or nearly, with numbers by chance.
+fn full_case(r: &mut Random) -> Case {
+    let types = if r.one_in(2) { full_ladder(r) } else { large(r, MOST_PRIVILEGES) };
+    let full = Schema::of(types).by_chance(r);
+    sound_case(r, &full)
+}
+
+fn any_case(r: &mut Random) -> Case {
+    let schema = schema(r);
+    case_of(r, &schema)
+}
+
+/// Case k: in its turn a chain or a cycle of 256 types or a full table, else what chance gives.
+fn make_case(r: &mut Random, k: usize) -> Case {
+    match k % 480 {
+        40 | 280 => chain_case(r, true),
+        160 | 400 => chain_case(r, false),
+        80 | 200 | 320 | 440 => cycle_case(r),
+        240 => full_case(r),
+        _ => any_case(r),
+    }
 }
 
 fn cases(seed: u64, count: usize) -> Vec<u8> {
     let mut r = Random(seed);
     let mut stream = Vec::new();
-    for _ in 0..count {
-        make_case(&mut r).write(&mut stream);
+    for k in 0..count {
+        make_case(&mut r, k).write(&mut stream);
     }
     stream
 }
@@ -1190,7 +1444,7 @@ fn damage(r: &mut Random, file: &mut Vec<u8>) {
         match r.below(16) {
             0..=6 => cut(r, file),
             7..=9 => lengthen(r, file),
-            10 | 11 => stretch_file(r, file),
+            10 => stretch_file(r, file),
             _ => bend_length(r, file),
         }
     }
@@ -1210,13 +1464,15 @@ fn file_shape(r: &mut Random) -> Vec<Type> {
     match r.below(64) {
         0 => large(r, MOST_PRIVILEGES),
         1 => full_ladder(r),
-        2..=4 => bare(usual_shape(r)),
+        2 => long_chain(r),
+        3..=5 => bare(usual_shape(r)),
         _ => usual_shape(r),
     }
 }
 
-fn file_of(r: &mut Random, types: &[Type]) -> Vec<u8> {
-    let mut file = case_of(r, types).file();
+fn file_of(r: &mut Random, types: Vec<Type>) -> Vec<u8> {
+    let schema = numbered(r, types);
+    let mut file = case_of(r, &schema).file();
     if r.one_in(4) {
         damage(r, &mut file);
     }
@@ -1225,13 +1481,13 @@ fn file_of(r: &mut Random, types: &[Type]) -> Vec<u8> {
 
 fn any_file(r: &mut Random) -> Vec<u8> {
     let types = file_shape(r);
-    file_of(r, &types)
+    file_of(r, types)
 }
 
 fn file_with(r: &mut Random, wanted: (usize, usize)) -> Vec<u8> {
     loop {
         let types = usual_shape(r);
-        let file = file_of(r, &types);
+        let file = file_of(r, types);
         if outcome(&file) == wanted {
             return file;
         }
@@ -1263,8 +1519,11 @@ const SAMPLE: [u16; 39] = [
     7, 1, 2, 3, 4, 5, 6, 7,
 ];
 
-/// S1 to S9: marks, the verdict's breach, the completion if there is one, count and mend.
-const SAMPLES: [(&str, [usize; 5], Option<&str>, usize, &str); 9] = [
+/// Marks, the verdict's breach, the completion if there is one, count and mend.
+type Sample = (&'static str, [usize; 5], Option<&'static str>, usize, &'static str);
+
+/// S1 to S9.
+const SAMPLES: [Sample; 9] = [
     ("00000000000", [0, 0, 0, 0, 0], Some("22222222222"), 0, "00000000000"),
     ("11020000000", [1, 0, 0, 0, 3], None, 1, "12020000000"),
     ("11000000000", [0, 0, 0, 0, 0], Some("11111111111"), 0, "11000000000"),
@@ -1278,6 +1537,29 @@ const SAMPLES: [(&str, [usize; 5], Option<&str>, usize, &str); 9] = [
 
 const S5_LINES: &str = "table 0 11\nverdict 2 4 0 2 5\ncomplete none\nmended 1 00002201000\n";
 
+/// The same schema with its types in alphabetical order: draft, final, held, job, layer, name,
+/// range, state are 0 to 7. Privilege 0 is the text of final; the others follow in their order.
+const ALPHABETICAL: [u16; 39] = [
+    1, 39, 8, 3, 8, 7, 32, 11, 0, 0, 0, 1, 0, 0, 0, 0, 0, 4, 1, 0, 2, 3, 1, 1, 0, 4, 1, 0, 4, 3, 3,
+    4, 4, 5, 6, 7, 0, 2, 1,
+];
+
+/// S1 to S9 in that order of types.
+const ALPHABETICAL_SAMPLES: [Sample; 9] = [
+    ("00000000000", [0, 0, 0, 0, 0], Some("22222222222"), 0, "00000000000"),
+    ("01102000000", [1, 3, 0, 0, 4], None, 1, "01202000000"),
+    ("01100000000", [0, 0, 0, 0, 0], Some("11111111111"), 0, "01100000000"),
+    ("01002000000", [0, 0, 0, 0, 0], Some("21222222222"), 0, "01002000000"),
+    ("00000120100", [2, 7, 0, 2, 6], None, 1, "00000220100"),
+    ("00000100100", [0, 0, 0, 0, 0], Some("22222112122"), 0, "00000100100"),
+    ("20000000101", [3, 7, 2, 2, 0], None, 1, "20000000102"),
+    ("00000000101", [0, 0, 0, 0, 0], Some("12222222121"), 0, "00000000101"),
+    ("01102120100", [1, 3, 0, 0, 4], None, 2, "01202220100"),
+];
+
+const ALPHABETICAL_S5_LINES: &str =
+    "table 0 11\nverdict 2 7 0 2 6\ncomplete none\nmended 1 00000220100\n";
+
 fn digits(text: &str) -> Vec<u8> {
     text.bytes().map(|byte| byte - b'0').collect()
 }
@@ -1288,34 +1570,48 @@ fn expect(holds: bool, what: &str) {
     }
 }
 
-fn self_sample(number: usize) {
-    let (marks, [condition, of, i, j, privilege], completed, count, after) = SAMPLES[number];
+fn self_sample(words: &[u16], sample: &Sample, name: &str) {
+    let (marks, [condition, of, i, j, privilege], completed, count, after) = *sample;
     let breach = Breach { condition, of, i, j, privilege };
     let marks = digits(marks);
-    let name = format!("sample S{}", number + 1);
     let mut out = vec![7; 12];
-    expect(verdict(&SAMPLE, &marks) == Ok(Answer { breach, ..Answer::default() }), &name);
-    let done = complete(&SAMPLE, &marks, &mut out);
+    expect(verdict(words, &marks) == Ok(Answer { breach, ..Answer::default() }), name);
+    let done = complete(words, &marks, &mut out);
     match completed {
-        Some(text) => expect(done.is_ok() && out == [digits(text), vec![7]].concat(), &name),
+        Some(text) => expect(done.is_ok() && out == [digits(text), vec![7]].concat(), name),
         None => {
-            expect(done == Err(Answer { number: 16, breach, ..Answer::default() }), &name);
-            expect(out == vec![7; 12], &name);
+            expect(done == Err(Answer { number: 16, breach, ..Answer::default() }), name);
+            expect(out == vec![7; 12], name);
         }
     }
-    expect(mend(&SAMPLE, &marks, &mut out) == Ok(Answer { count, ..Answer::default() }), &name);
-    expect(out == [digits(after), vec![7]].concat(), &name);
+    expect(mend(words, &marks, &mut out) == Ok(Answer { count, ..Answer::default() }), name);
+    expect(out == [digits(after), vec![7]].concat(), name);
 }
 
-fn self_samples() {
-    (0..SAMPLES.len()).for_each(self_sample);
-    let s2 = digits("11020000000");
-    let taken = judge_mend(&SAMPLE, &s2, &digits("12020000000"));
+/// S10: from S2's marks one proposal is accepted with one change, the other gives 15 at the place.
+fn self_proposals(words: &[u16], from: &str, accepted: &str, refused: &str, place: usize) {
+    let taken = judge_mend(words, &digits(from), &digits(accepted));
     expect(taken == Ok(Answer { count: 1, ..Answer::default() }), "sample S10");
-    let refused = judge_mend(&SAMPLE, &s2, &digits("11000000000"));
-    expect(refused == Err(Answer { number: 15, place: 3, ..Answer::default() }), "sample S10");
-    let file = [to_bytes(&SAMPLE), digits(SAMPLES[4].0)].concat();
-    expect(judge(&file) == S5_LINES, "the four lines of S5");
+    let refusal = judge_mend(words, &digits(from), &digits(refused));
+    expect(refusal == Err(Answer { number: 15, place, ..Answer::default() }), "sample S10");
+}
+
+fn self_samples(words: &[u16], samples: &[Sample], s5_lines: &str) {
+    for (k, sample) in samples.iter().enumerate() {
+        self_sample(words, sample, &format!("sample S{}", k + 1));
+    }
+    let s5 = [to_bytes(words), digits(samples[4].0)].concat();
+    expect(judge(&s5) == s5_lines, "the four lines of S5");
+}
+
+fn self_both_numberings() {
+    self_samples(&SAMPLE, &SAMPLES, S5_LINES);
+    self_proposals(&SAMPLE, "11020000000", "12020000000", "11000000000", 3);
+    self_samples(&ALPHABETICAL, &ALPHABETICAL_SAMPLES, ALPHABETICAL_S5_LINES);
+    self_proposals(&ALPHABETICAL, "01102000000", "01202000000", "01100000000", 4);
+    let sample = check_table(&SAMPLE).expect("the sample schema is accepted");
+    let alphabetical = Schema::of(sample.types).renumbered(&[3, 4, 5, 6, 7, 0, 2, 1]);
+    expect(alphabetical.words() == ALPHABETICAL, "the types in alphabetical order");
 }
 
 fn leaves_under_choice(n: usize) -> Vec<u16> {
@@ -1324,8 +1620,13 @@ fn leaves_under_choice(n: usize) -> Vec<u16> {
     encode(&types)
 }
 
+/// Number and place of a table.
+fn told(words: &[u16]) -> (usize, usize) {
+    let Answer { number, place, .. } = answer(check(words));
+    (number, place)
+}
+
 fn self_named_tables() {
-    let told = |words: &[u16]| (answer(check(words)).number, answer(check(words)).place);
     let lone = [1, 11, 1, 0, 8, 0, 11, 0, 0, 0, 0];
     expect(told(&lone) == (0, 0) && verdict(&lone, &[]) == Ok(Answer::default()), "a lone empty type");
     expect(judge(&to_bytes(&lone)) == "table 0 0\nverdict 0 0 0 0 0\ncomplete\nmended 0\n", "V 0");
@@ -1335,9 +1636,53 @@ fn self_named_tables() {
     expect(told(&leaves_under_choice(16)) == (0, 240), "16 children");
     expect(told(&leaves_under_choice(17)) == (4, 0), "17 children");
     let own = [1, 12, 1, 0, 8, 1, 11, 2, 4, 1, 0, 0];
-    expect(told(&own) == (6, 0), "a star whose child is its own number");
+    expect(told(&own) == (19, 0), "a star whose child is its own number");
     expect(judge(&[0; MOST_BYTES + 1]) == "table 2 0\n", "over 8,192 bytes");
     expect(judge(&[1]) == "table 1 0\n" && judge(&[]) == "table 1 0\n", "no word 1");
+}
+
+/// Sequences of these children, and empty types where there is none.
+fn sequences(root: usize, children: &[&[usize]]) -> Schema {
+    let kind = |count: usize| if count == 0 { EMPTY } else { SEQUENCE };
+    let of = |list: &&[usize]| Type { kind: kind(list.len()), children: list.to_vec() };
+    Schema { root, types: children.iter().map(of).collect() }
+}
+
+/// Small schemas: the root, the children of each type, number and place.
+const HIERARCHIES: [(&str, usize, &[&[usize]], (usize, usize)); 23] = [
+    ("a child before its parent", 1, &[&[], &[0]], (0, 0)),
+    ("a root in the middle of the numbers", 1, &[&[], &[2, 0], &[]], (0, 0)),
+    ("a chain backwards", 3, &[&[], &[0], &[1], &[2]], (0, 0)),
+    ("a type below two others", 2, &[&[1], &[], &[3, 0], &[1]], (0, 0)),
+    ("a root that is E", 2, &[&[1], &[]], (2, 0)),
+    ("a root above E", 3, &[&[1], &[]], (2, 0)),
+    ("a root above E, and a cycle", 1, &[&[0]], (2, 0)),
+    ("a child that is E", 0, &[&[1, 2], &[]], (6, 0)),
+    ("a child that is E, and a lower type on a cycle", 0, &[&[0, 1], &[2]], (6, 1)),
+    ("the same child twice, and a lower type on a cycle", 0, &[&[0, 1], &[2, 2], &[]], (7, 1)),
+    ("the root its own child", 1, &[&[], &[1, 0]], (19, 1)),
+    ("a type below the root its own child", 0, &[&[1], &[1]], (19, 1)),
+    ("a type its own child, not reached from the root", 0, &[&[], &[1]], (19, 1)),
+    ("each other's child", 1, &[&[1], &[0]], (19, 0)),
+    ("each other's child, not reached from the root", 0, &[&[], &[2], &[1]], (19, 1)),
+    ("a lower type not reached from the root, and a cycle", 1, &[&[], &[2], &[1]], (19, 1)),
+    ("a lower type below a cycle", 1, &[&[], &[2], &[0, 1]], (19, 1)),
+    ("a lower type above a cycle and one below it", 1, &[&[], &[3], &[3, 0], &[2]], (19, 2)),
+    ("two cycles", 3, &[&[], &[4], &[2], &[2, 1, 0], &[1]], (19, 1)),
+    ("a root with a parent", 1, &[&[1], &[2], &[]], (8, 0)),
+    ("the last of a chain as the root", 2, &[&[1], &[2], &[]], (8, 0)),
+    ("somebody's child, not reached from the root", 2, &[&[], &[0], &[]], (8, 0)),
+    ("two not reached from the root", 0, &[&[2], &[3, 2], &[], &[]], (8, 1)),
+];
+
+/// The small schemas, each also with a wrong V: 9 is told where nothing else is.
+fn self_hierarchies() {
+    for (name, root, children, expected) in HIERARCHIES {
+        let mut words = sequences(root, children).words();
+        expect(told(&words) == expected, name);
+        words[7] = 1;
+        expect(told(&words) == if expected == (0, 0) { (9, 0) } else { expected }, name);
+    }
 }
 
 /// Counts the privileges one by one, types in ascending order.
@@ -1360,10 +1705,9 @@ fn is_below(types: &[Type], x: usize, y: usize) -> bool {
     x == y || types[y].children.iter().any(|&child| is_below(types, x, child))
 }
 
-/// The allowed replacements of a choice, closed by Warshall's rule.
-fn closure(table: &Table, marks: &[u8], t: usize) -> Vec<Vec<bool>> {
-    let n = table.types[t].children.len();
-    let row = |i: usize| (0..n).map(|j| table.allows(marks, t, i, j)).collect();
+/// Which of n things lead to which by one or more steps, by Warshall's rule.
+fn warshall(n: usize, step: impl Fn(usize, usize) -> bool) -> Vec<Vec<bool>> {
+    let row = |i: usize| (0..n).map(|j| step(i, j)).collect();
     let mut leads: Vec<Vec<bool>> = (0..n).map(row).collect();
     for k in 0..n {
         for i in 0..n {
@@ -1373,6 +1717,49 @@ fn closure(table: &Table, marks: &[u8], t: usize) -> Vec<Vec<bool>> {
         }
     }
     leads
+}
+
+/// Which positions of a choice lead to which by allowed replacements.
+fn closure(table: &Table, marks: &[u8], t: usize) -> Vec<Vec<bool>> {
+    warshall(table.types[t].children.len(), |i, j| table.allows(marks, t, i, j))
+}
+
+/// Number and place of a table that passes 1 to 7 and 9, where `leads` tells which types lead to
+/// which by going from types to their children.
+fn told_by(leads: &[Vec<bool>], schema: &Schema) -> (usize, usize) {
+    let e = leads.len();
+    let on_cycle = (0..e).find(|&t| leads[t][t]);
+    let unreached = (0..e).find(|&t| t != schema.root && !leads[schema.root][t]);
+    match (on_cycle, unreached) {
+        (Some(t), _) => (19, t),
+        (None, Some(t)) => (8, t),
+        (None, None) => (0, total(&schema.types)),
+    }
+}
+
+/// Gives the number of the table.
+fn self_descent(schema: &Schema) -> usize {
+    let types = &schema.types;
+    let leads = warshall(types.len(), |parent, child| types[parent].children.contains(&child));
+    for y in 0..types.len() {
+        let below: Vec<bool> = (0..types.len()).map(|x| x == y || leads[y][x]).collect();
+        expect(types_below(types, y) == below, "the types below a type");
+        expect(on_cycle(types, y) == leads[y][y], "a type on a cycle");
+    }
+    let found = told(&schema.words());
+    expect(found == told_by(&leads, schema), "the lowest on a cycle or not reached from the root");
+    found.0
+}
+
+/// A small schema, often with cycles or with types that its root does not reach.
+fn small_schema(r: &mut Random) -> Schema {
+    loop {
+        let schema = schema(r);
+        if schema.types.len() <= 12 {
+            let schema = if r.one_in(2) { unsound(r, &schema) } else { schema };
+            return if r.one_in(4) { uprooted(r, &schema) } else { schema };
+        }
+    }
 }
 
 /// Every breach, read from the three conditions literally and apart from `forced`, as type,
@@ -1501,17 +1888,39 @@ fn self_mend(words: &[u16], table: &Table, marks: &[u8]) {
     expect(judge_mend(words, marks, &out) == Ok(done), "a mend is accepted when proposed");
 }
 
+/// The marks in another numbering of the types: each edit of a type keeps its mark.
+fn carried(from: &Table, to: &Table, numbers: &[usize], marks: &[u8]) -> Vec<u8> {
+    let mut after = vec![UNSET; marks.len()];
+    for (p, &mark) in marks.iter().enumerate() {
+        let t = from.owner[p];
+        after[to.first[numbers[t]] + p - from.first[t]] = mark;
+    }
+    after
+}
+
+/// In another numbering a policy is clean as it was, and its completion is the same.
+fn self_renumbered(r: &mut Random, schema: &Schema, table: &Table, marks: &[u8]) {
+    let numbers = chance_numbers(r, table.types.len());
+    let (words, other) = (schema.words(), schema.renumbered(&numbers).words());
+    let to = check_table(&other).expect("an accepted table is accepted in every numbering");
+    let after = carried(table, &to, &numbers, marks);
+    let clean = |words: &[u16], marks: &[u8]| answer(verdict(words, marks)).breach == Breach::default();
+    expect(clean(&words, marks) == clean(&other, &after), "clean in every numbering");
+    let expected = completed(&words, marks).map(|out| carried(table, &to, &numbers, &out));
+    expect(completed(&other, &after) == expected, "the same completion in every numbering");
+}
+
 /// A small table and a policy with at most ten unset marks.
-fn small_policy(r: &mut Random) -> (Vec<u16>, Table, Vec<u8>) {
+fn small_policy(r: &mut Random) -> (Schema, Table, Vec<u8>) {
     loop {
-        let words = encode(&shape(r));
-        let table = check_table(&words).expect("a shape is an accepted table");
+        let schema = schema(r);
+        let table = check_table(&schema.words()).expect("a shape is accepted in every numbering");
         if table.v() == 0 || table.v() > 20 || table.types.len() > 12 {
             continue;
         }
         let mut marks = policy(r, &table);
         leave_unset(r, &mut marks);
-        return (words, table, marks);
+        return (schema, table, marks);
     }
 }
 
@@ -1529,24 +1938,33 @@ fn leave_unset(r: &mut Random, marks: &mut [u8]) {
     }
 }
 
-fn self_check(seed: u64, policies: usize) -> String {
-    self_samples();
+fn self_check(seed: u64, count: usize) -> String {
+    self_both_numberings();
     self_named_tables();
+    self_hierarchies();
     let mut r = Random(seed);
+    let mut numbers = [0; HIGHEST_NUMBER + 1];
+    for _ in 0..count {
+        numbers[self_descent(&small_schema(&mut r))] += 1;
+    }
     let (mut clean, mut blanks) = (0, 0);
-    for _ in 0..policies {
-        let (words, table, marks) = small_policy(&mut r);
+    for _ in 0..count {
+        let (schema, table, marks) = small_policy(&mut r);
+        let words = schema.words();
         self_numbering(&table);
         self_verdict(&words, &table, &marks);
         self_one_more(&words, &marks);
         self_mend(&words, &table, &marks);
+        self_renumbered(&mut r, &schema, &table, &marks);
         clean += self_completion(&words, &table, &marks) as usize;
         blanks += unset(&marks);
     }
-    format!(
-        "self: S1 to S10, the named tables and {} policies hold ({} clean, {} unset marks)\n",
-        policies, clean, blanks
-    )
+    [
+        format!("self: S1 to S10 in both numberings, the named tables, {} tables ", count),
+        format!("({} accepted, {} with number 8, {} with 19) ", numbers[0], numbers[8], numbers[19]),
+        format!("and {} policies ({} clean, {} unset marks) hold\n", count, clean, blanks),
+    ]
+    .concat()
 }
 
 // ---------------------------------------------------------------- modes

@@ -24,6 +24,7 @@ static const char *number_text(size_t number)
     case FINNEDSCARF_STRETCH: return "5";
     case FINNEDSCARF_BOUNDS: return "6";
     case FINNEDSCARF_TWICE: return "7";
+    case FINNEDSCARF_ON_CYCLE: return "19";
     case FINNEDSCARF_ORPHAN: return "8";
     case FINNEDSCARF_TOTAL: return "9";
     case FINNEDSCARF_MARKS_LENGTH: return "10";

@@ -84,7 +84,7 @@ impl fmt::Display for Breach {
 /// ```
 #[derive(Clone, Copy, Debug, PartialEq, Eq)]
 pub struct Refusal {
-    /// 1 to 16, as in `include/finnedscarf.h`.
+    /// 1 to 16 or 19, as in `include/finnedscarf.h`.
     pub number: usize,
     /// The lowest type or privilege at which the check of this number fails; 0 where the check has no places.
     pub place: usize,
@@ -102,9 +102,9 @@ impl fmt::Display for Refusal {
             3 => write!(f, "kind above 4 at type {place}"),
             4 => write!(f, "child count wrong for the kind at type {place}"),
             5 => write!(f, "first child is not the running index at type {place} (one past the last: the total is wrong)"),
-            6 => write!(f, "child out of range or not above its parent at parent {place}"),
+            6 => write!(f, "child not below the number of types at parent {place}"),
             7 => write!(f, "the same child twice at parent {place}"),
-            8 => write!(f, "type {place} is nobody's child"),
+            8 => write!(f, "type {place} is not reached from the root"),
             9 => write!(f, "over 4,096 privileges, or word 7 is not their number"),
             10 => write!(f, "not one mark for each privilege"),
             11 => write!(f, "a mark above 2 at privilege {place}"),
@@ -112,6 +112,7 @@ impl fmt::Display for Refusal {
             13 => write!(f, "not one proposed mark for each privilege"),
             14 => write!(f, "a proposed mark above 2 at privilege {place}"),
             15 => write!(f, "a change other than from 1 to 2 at privilege {place}"),
+            19 => write!(f, "type {place} is on a cycle: it is below one of its own children"),
             _ => write!(f, "a breach"),
         }?;
         match breach {
@@ -123,21 +124,21 @@ impl fmt::Display for Refusal {
 
 impl Error for Refusal {}
 
-/// Checks a table, and gives its number of privileges V. Refused with 1 to 9.
+/// Checks a table, and gives its number of privileges V. Refused with 1 to 9 and 19.
 pub fn check_table(words: &[u16]) -> Result<usize, Refusal> {
     // SAFETY: a pointer and its length, lent for the call; so in each call below, where the borrows keep `out` apart from the rest.
     let outcome = unsafe { finnedscarf_check_table(words.as_ptr(), words.len()) };
     outcome.done().map(|done| done.place)
 }
 
-/// Judges a policy, and gives its first breach, or `None` if it is clean. Refused with 1 to 11.
+/// Judges a policy, and gives its first breach, or `None` if it is clean. Refused with 1 to 11 and 19.
 pub fn judge_policy(words: &[u16], marks: &[u8]) -> Result<Option<Breach>, Refusal> {
     let outcome = unsafe { finnedscarf_judge_policy(words.as_ptr(), words.len(), marks.as_ptr(), marks.len()) };
     outcome.done().map(|done| done.breach())
 }
 
 /// Completes a policy: writes the least fully decided policy that keeps every set mark and is clean into the first V bytes of `out`, whose
-/// rest is kept. Refused with 1 to 12, and with 16 if there is none.
+/// rest is kept. Refused with 1 to 12 and 19, and with 16 if there is none.
 pub fn complete(words: &[u16], marks: &[u8], out: &mut [u8]) -> Result<(), Refusal> {
     let outcome = unsafe {
         finnedscarf_complete(words.as_ptr(), words.len(), marks.as_ptr(), marks.len(), out.as_mut_ptr(), out.len())
@@ -146,7 +147,7 @@ pub fn complete(words: &[u16], marks: &[u8], out: &mut [u8]) -> Result<(), Refus
 }
 
 /// Mends a policy by the rule that the header states: writes a clean one into the first V bytes of `out`, whose rest is kept, and gives the
-/// number of marks that went from allowed to forbidden; all others are equal. Refused with 1 to 12.
+/// number of marks that went from allowed to forbidden; all others are equal. Refused with 1 to 12 and 19.
 pub fn mend(words: &[u16], marks: &[u8], out: &mut [u8]) -> Result<usize, Refusal> {
     let outcome = unsafe {
         finnedscarf_mend(words.as_ptr(), words.len(), marks.as_ptr(), marks.len(), out.as_mut_ptr(), out.len())
@@ -155,7 +156,7 @@ pub fn mend(words: &[u16], marks: &[u8], out: &mut [u8]) -> Result<usize, Refusa
 }
 
 /// Judges a proposed mend, and gives the number of changed marks: accepted if each mark is equal or went from allowed to forbidden and the
-/// proposed policy is clean. Refused with 1 to 11 and 13 to 16.
+/// proposed policy is clean. Refused with 1 to 11, 13 to 16 and 19.
 pub fn judge_mend(words: &[u16], marks: &[u8], proposed: &[u8]) -> Result<usize, Refusal> {
     let outcome = unsafe {
         finnedscarf_judge_mend(words.as_ptr(), words.len(), marks.as_ptr(), marks.len(), proposed.as_ptr(), proposed.len())

@@ -10,10 +10,12 @@ use Rattle.table.specs.Privilege.{Belongs, insertOf, deleteOf, replaceOf, Edit,
 use Rattle.table.specs.Check.{Accepted}
 use Rattle.table.proofs.Privileges.{belongs-one, edit-belongs, edit-one}
 use Rattle.table.proofs.Facts.{facts, child-at}
-use Rattle.verdict.specs.Below.{Below, here, down, PrivilegeBelow}
-use Rattle.verdict.specs.Reached.{last, next, Step, Reached}
+use Rattle.table.specs.Below.{Below, here, down}
+use Rattle.verdict.specs.Below.{PrivilegeBelow}
+use Rattle.table.specs.Plus.{last, next}
+use Rattle.verdict.specs.Reached.{Step, Reached}
 use Rattle.verdict.specs.Forces.{Forces, insert-delete, chain, cycle}
-use Rattle.verdict.proofs.Lows.{below-trans}
+use Rattle.table.proofs.Belows.{below-trans}
 use Rattle.verdict.proofs.Closures.{plus-trans}
 use Rattle.verdict.proofs.Breached.{reached-from}
 use Rattle.verdict.proofs.Forced.{reached-replaceable}

@@ -17,7 +17,7 @@ use Rattle.table.proofs.Lowest.{told-yes, tells-as}
 use Rattle.table.proofs.Privileges.{belongs-one, belongs-some, belongs-below}
 use Rattle.table.proofs.Facts.{facts}
 use Rattle.verdict.specs.Marks.{Allowed}
-use Rattle.verdict.specs.Below.{Below, here, down}
+use Rattle.table.specs.Below.{Below, here, down}
 use Rattle.verdict.proofs.Breached.{reached-from}
 use Rattle.completion.specs.Opens.{OpensAt, star, cycle, Opened, Granted, PassesOn}
 use Rattle.completion.specs.Writing.{Decision, isOpen}

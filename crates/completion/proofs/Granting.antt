@@ -18,7 +18,8 @@ use Rattle.verdict.specs.Conditions.{Clean}
 use Rattle.verdict.specs.Forces.{Forces, chain}
 use Rattle.verdict.proofs.Breached.{reached-from, reached-to}
 use Rattle.verdict.proofs.Forced.{forced-below, clean-forces, forces-clean}
-use Rattle.verdict.proofs.PolicyTests.{below, allowed, forbidden, policy, reached}
+use Rattle.table.proofs.BelowTests.{below}
+use Rattle.verdict.proofs.PolicyTests.{allowed, forbidden, policy, reached}
 use Rattle.completion.specs.Completions.{Completes, LeastCompletion}
 use Rattle.completion.specs.Opens.{OpensAt, star, cycle, Opened, Granted}
 use Rattle.completion.specs.Writing.{Decision, allow, forbid, decision}

@@ -6,7 +6,7 @@ use mathlib.Core.Logic.{_⊎_}
 use mathlib.Core.List.{List}
 use Rattle.table.specs.Rule.{IsChoice, IsStar, childAt}
 use Rattle.table.specs.Privilege.{insertOf, deleteOf}
-use Rattle.verdict.specs.Below.{Below}
+use Rattle.table.specs.Below.{Below}
 use Rattle.verdict.specs.Reached.{Reached}
 use Rattle.verdict.specs.Forces.{Forces}
 

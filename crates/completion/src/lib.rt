@@ -12,21 +12,22 @@ use verdict::breaches::first_breach;
 use verdict::marks::check_policy;
 use verdict::refused;
 
-// Completes a policy with the least permission: refuses with 1 to 12 or 16, or writes V decided marks into the result, whose rest it keeps.
+// Completes a policy with the least permission: refuses with 1 to 12, 16 or 19, or writes V decided marks into the result, whose rest it keeps.
 pub fn complete(words: &[u16], marks: &[u8], out: &mut [u8]) -> Answer
     ensures { λ r. ⌜ CompleteAnswer (now (words .entry)) (now (marks .entry)) (now (out .entry)) r (now (out .exit)) ⌝ }
 {
-    let checked = check_policy(words, marks);
+    let mut order = [0u8; 256];
+    let checked = check_policy(words, marks, &mut order);
     if checked.number != 0 {
         return refused(checked.number, checked.place);
     }
     if out.len() < checked.place {
         return refused(12, 0);
     }
-    let breach = first_breach(words, marks);
+    let breach = first_breach(words, marks, &order);
     let condition = breach.condition;
     if let Condition::None = condition {
-        complete_all(words, marks, out);
+        complete_all(words, marks, &order, out);
         return refused(0, 0);
     }
     Answer {

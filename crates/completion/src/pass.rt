@@ -4,6 +4,7 @@ ghost use lib.ListN.{length};
 ghost use Rattle.table.specs.Lowest.{Tells};
 ghost use Rattle.table.specs.Rule.{IsChoice, IsStar};
 ghost use Rattle.table.specs.Privilege.{privileges};
+ghost use Rattle.table.specs.Order.{BottomUp};
 ghost use Rattle.verdict.specs.Marks.{Allowed, Policy};
 ghost use Rattle.completion.specs.Opens.{Opened};
 ghost use Rattle.completion.specs.Passes.{Visited, Both, Done, Filled};
@@ -11,7 +12,6 @@ use super::open::open_all;
 use super::open::open_cycles;
 use super::write::write_choice;
 use super::write::write_range;
-use table::order::bottom_up;
 use table::privilege::Numbering;
 use table::privilege::deletion;
 use table::privilege::first_privileges;
@@ -134,13 +134,11 @@ fn complete_type(
     }
 }
 
-// All types, each after its parents: the order in which each comes after its children, read backwards.
-pub fn complete_all(words: &[u16], marks: &[u8], out: &mut [u8])
-    requires { ⌜ Policy (now words) (now marks) × (privileges (now words) ≤ length (now out)) ⌝ }
+// All types, each after its parents: the order holds each type after its children, and is read backwards.
+pub fn complete_all(words: &[u16], marks: &[u8], order: &[u8; 256], out: &mut [u8])
+    requires { ⌜ Policy (now words) (now marks) × BottomUp (now words) (now order) × (privileges (now words) ≤ length (now out)) ⌝ }
     ensures { λ _. ⌜ Filled (now (words .entry)) (now (marks .entry)) (now (out .entry)) (now (out .exit)) ⌝ }
 {
-    let mut order = [0u8; 256];
-    bottom_up(words, &mut order);
     let mut firsts = [0u16; 256];
     first_privileges(words, &mut firsts);
     let mut opened = [0u8; 256];

@@ -19,7 +19,8 @@ use Rattle.table.specs.declared.Found.the-variants.{At, Nothing}
 use Rattle.table.proofs.Test.{Test, isAtMost, isEqual, both, either, fails, means, settle, lowestOf, lowest-of}
 use Rattle.table.proofs.TableTests.{answerOf, answer-of}
 use Rattle.verdict.specs.Marks.{Allowed, Legal, Fit, Unfit, length-off, mark-above, Policy, NoPolicy, table, marks}
-use Rattle.verdict.specs.Reached.{last, next, Reached}
+use Rattle.table.specs.Plus.{last, next}
+use Rattle.verdict.specs.Reached.{Reached}
 use Rattle.verdict.specs.Conditions.{Clean}
 use Rattle.verdict.specs.Breaches.{BreachOf, FirstBreach, Verdict, clean, broken}
 use Rattle.verdict.specs.Answers.{refusal, breached}

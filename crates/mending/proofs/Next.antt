@@ -28,7 +28,8 @@ use Rattle.verdict.specs.declared.Breach.{Breach}
 use Rattle.verdict.specs.declared.Condition.the-variants.{InsertDelete, Chain, Cycle}
 use Rattle.verdict.proofs.PolicyTests.{forbiddenBelow}
 use Rattle.verdict.proofs.Firsts.{at-first}
-use Rattle.verdict.specs.Reached.{last, next, Step, Reached, marked, Square}
+use Rattle.table.specs.Plus.{last, next}
+use Rattle.verdict.specs.Reached.{Step, Reached, marked, Square}
 use Rattle.verdict.proofs.SquareLaws.{step-out, step-into, told-marked}
 use Rattle.verdict.proofs.Breached.{reached-from, reached-to, star-first, star-closed, star-free, choice-only, chain-none, chain-first, choice-at, CyclesFrom, cycle-first}
 use Rattle.mending.proofs.Counting.{taken-here}

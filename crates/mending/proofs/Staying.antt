@@ -18,14 +18,16 @@ use Rattle.table.proofs.Privileges.{belongs-one, belongs-below, edit-belongs}
 use Rattle.table.proofs.Facts.{facts, child-at}
 use Rattle.table.proofs.Lowest.{tells-as, tells-by}
 use Rattle.verdict.specs.Marks.{Allowed, Forbidden, Policy}
-use Rattle.verdict.specs.Below.{Below, here, down, ForbiddenBelow, Lows}
+use Rattle.table.specs.Below.{Below, here, down}
+use Rattle.verdict.specs.Below.{ForbiddenBelow, Lows}
 use Rattle.verdict.specs.Breaches.{IsBreach, FirstBreach, InsertDeleteBreach, ChainBreach, CycleBreach}
 use Rattle.verdict.specs.declared.Breach.{Breach}
 use Rattle.verdict.specs.declared.Condition.the-variants.{InsertDelete, Chain, Cycle}
 use Rattle.verdict.proofs.Policies.{marked-within}
 use Rattle.verdict.proofs.Forced.{reached-mono, reached-replaceable}
 use Rattle.verdict.proofs.Breached.{reached-from}
-use Rattle.verdict.proofs.Lows.{below-trans, below-small}
+use Rattle.table.proofs.Belows.{below-trans}
+use Rattle.verdict.proofs.Lows.{below-small}
 use Rattle.verdict.proofs.Firsts.{breach-cases, clean-all}
 use Rattle.mending.specs.Mends.{Takes, Mends}
 use Rattle.mending.specs.Taking.{Spoilt, CleanUpTo, Cleaned, Follows, take}

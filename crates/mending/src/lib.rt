@@ -30,11 +30,12 @@ fn done_with(count: usize) -> Answer
     }
 }
 
-// Mends a policy: refuses with 1 to 12, or writes what the rule gives into the result, whose rest it keeps, and counts the marks taken.
+// Mends a policy: refuses with 1 to 12 or 19, or writes what the rule gives into the result, whose rest it keeps, and counts the marks taken.
 pub fn mend(words: &[u16], marks: &[u8], out: &mut [u8]) -> Answer
     ensures { λ r. ⌜ MendAnswer (now (words .entry)) (now (marks .entry)) (now (out .entry)) r (now (out .exit)) ⌝ }
 {
-    let checked = check_policy(words, marks);
+    let mut order = [0u8; 256];
+    let checked = check_policy(words, marks, &mut order);
     if checked.number != 0 {
         return refused(checked.number, checked.place);
     }
@@ -42,14 +43,15 @@ pub fn mend(words: &[u16], marks: &[u8], out: &mut [u8]) -> Answer
     if out.len() < v {
         return refused(12, 0);
     }
-    done_with(mend_types::mend_copy(words, marks, &mut out[0..v]))
+    done_with(mend_types::mend_copy(words, marks, &order, &mut out[0..v]))
 }
 
-// Judges a proposed mend: refuses with 1 to 11 and 13 to 16, or accepts it with the number of changed marks.
+// Judges a proposed mend: refuses with 1 to 11, 13 to 16 or 19, or accepts it with the number of changed marks.
 pub fn judge_mend(words: &[u16], marks: &[u8], proposed: &[u8]) -> Answer
     ensures { λ r. ⌜ ProposeAnswer (now (words .entry)) (now (marks .entry)) (now (proposed .entry)) r ⌝ }
 {
-    let checked = check_policy(words, marks);
+    let mut order = [0u8; 256];
+    let checked = check_policy(words, marks, &mut order);
     if checked.number != 0 {
         return refused(checked.number, checked.place);
     }
@@ -62,7 +64,7 @@ pub fn judge_mend(words: &[u16], marks: &[u8], proposed: &[u8]) -> Answer
     if let Found::At(place) = found {
         return refused(15, place);
     }
-    let breach = first_breach(words, proposed);
+    let breach = first_breach(words, proposed, &order);
     let condition = breach.condition;
     if let Condition::None = condition {
         return done_with(proposal::count_changes(marks, proposed, v));

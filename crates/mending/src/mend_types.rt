@@ -5,6 +5,7 @@ ghost use lib.ListN.{length};
 ghost use Rattle.table.specs.Words.{types};
 ghost use Rattle.table.specs.Rule.{IsChoice, IsStar};
 ghost use Rattle.table.specs.Privilege.{firstPrivilege};
+ghost use Rattle.table.specs.Order.{BottomUp};
 ghost use Rattle.verdict.specs.Marks.{Policy};
 ghost use Rattle.mending.specs.Mends.{Mends};
 ghost use Rattle.mending.specs.Taking.{Spoilt, CleanUpTo, Visited, Cleaned};
@@ -111,13 +112,13 @@ fn mend_type(words: &[u16], m: &mut [u8], low: &[u16; 256], x: usize, first: usi
     }
 }
 
-// Mends a policy in place, and counts the marks taken.
-fn mend_all(words: &[u16], m: &mut [u8]) -> usize
-    requires { ⌜ Policy (now words) (now m) ⌝ }
+// Mends a policy in place, and counts the marks taken. The order holds each type after its children.
+fn mend_all(words: &[u16], order: &[u8; 256], m: &mut [u8]) -> usize
+    requires { ⌜ Policy (now words) (now m) × BottomUp (now words) (now order) ⌝ }
     ensures { λ r. ⌜ Mends (now (words .entry)) (now (m .entry)) (now (m .exit)) r ⌝ }
 {
     let mut low = [65535u16; 256];
-    forbidden_lows(words, m, &mut low);
+    forbidden_lows(words, m, order, &mut low);
     let e = types(words);
     let mut count = 0;
     let mut first = 0;
@@ -143,10 +144,10 @@ fn copy(marks: &[u8], m: &mut [u8])
 }
 
 // Mends a copy of the marks of a policy.
-pub fn mend_copy(words: &[u16], marks: &[u8], m: &mut [u8]) -> usize
-    requires { ⌜ Policy (now words) (now marks) × (length (now m) ≡ length (now marks)) ⌝ }
+pub fn mend_copy(words: &[u16], marks: &[u8], order: &[u8; 256], m: &mut [u8]) -> usize
+    requires { ⌜ Policy (now words) (now marks) × BottomUp (now words) (now order) × (length (now m) ≡ length (now marks)) ⌝ }
     ensures { λ r. ⌜ Mends (now (words .entry)) (now (marks .entry)) (now (m .exit)) r ⌝ }
 {
     copy(marks, m);
-    mend_all(words, m)
+    mend_all(words, order, m)
 }

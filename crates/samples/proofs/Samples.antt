@@ -1,12 +1,13 @@
--- S1 to S10 of document 01: the verdict, the completion, the mend and the proposals. One table of rows, and one statement, proved by one
--- computation. The expected answers are the document's. Assumes nothing.
+-- S1 to S10 of document 01: the verdict, the completion, the mend and the proposals, on the sample schema and on the same with its types in
+-- alphabetical order. One table of rows, and one statement, proved by one computation. The expected answers are the document's, and the same under the
+-- other numbers. Assumes nothing.
 use Prim.Native.Nat.{ℕ}
 use mathlib.Core.Path.{_≡_, refl}
 use mathlib.Core.List.{List, [], _∷_, map}
 use Rattle.table.specs.Sum.{sumBelow}
 use Rattle.table.specs.Rule.{ruleOf, ruleAt, childrenAt, countOf}
 use Rattle.table.specs.Privilege.{privilegesAt, firstPrivilege, privileges, replaceOf}
-use Rattle.table.proofs.Tables.{Each, each-computed, marksOf, sample}
+use Rattle.table.proofs.Tables.{Each, each-computed, marksOf, sample, alphabetical}
 use Rattle.verdict.specs.Breaches.{noBreach, Verdict}
 use Rattle.verdict.specs.Answers.{refusal, done}
 use Rattle.verdict.specs.declared.Answer.{Answer}
@@ -19,63 +20,74 @@ use Rattle.mending.specs.Mends.{Mends}
 use Rattle.mending.specs.Answers.{ProposeAnswer}
 use Rattle.mending.proofs.MendTests.{mendBy, mend-by, proposeBy, propose-by}
 
--- marks, with the verdict, the completion, the mend and its count; or with proposed marks and their answer
+-- words and marks, with the verdict, the completion, the mend and its count; or with proposed marks and their answer
 pub data Row : Type 0 where
-  judges : (marks : List ℕ) → Breach → Outcome → (mended : List ℕ) → (count : ℕ) → Row
-  proposes : (marks proposed : List ℕ) → Answer → Row
+  judges : (words marks : List ℕ) → Breach → Outcome → (mended : List ℕ) → (count : ℕ) → Row
+  proposes : (words marks proposed : List ℕ) → Answer → Row
 
 -- a breach: condition, type, i, j, privilege
 abbrev at : Condition → ℕ → ℕ → ℕ → ℕ → Breach
 at c x i j p = record { condition = c; element = x; i = i; j = j; privilege = p }
 
 -- a clean policy is mended by a copy
-abbrev clean : ℕ → ℕ → Row
-clean m n = judges (marksOf sample m) noBreach (least (marksOf sample n)) (marksOf sample m) 0
+abbrev clean : List ℕ → ℕ → ℕ → Row
+clean ws m n = judges ws (marksOf ws m) noBreach (least (marksOf ws n)) (marksOf ws m) 0
 
 -- a broken one has no completion
-abbrev broken : ℕ → Breach → ℕ → ℕ → Row
-broken m b n count = judges (marksOf sample m) b none (marksOf sample n) count
+abbrev broken : List ℕ → ℕ → Breach → ℕ → ℕ → Row
+broken ws m b n count = judges ws (marksOf ws m) b none (marksOf ws n) count
 
-abbrev proposed : ℕ → ℕ → Answer → Row
-proposed m n a = proposes (marksOf sample m) (marksOf sample n) a
+abbrev proposed : List ℕ → ℕ → ℕ → Answer → Row
+proposed ws m n a = proposes ws (marksOf ws m) (marksOf ws n) a
 
 abbrev pub rows : List Row
 rows =
     -- S1
-    clean 00000000000 22222222222
+    clean sample 00000000000 22222222222
+    ∷ clean alphabetical 00000000000 22222222222
     -- S2
-    ∷ broken 11020000000 (at InsertDelete 0 0 0 3) 12020000000 1
+    ∷ broken sample 11020000000 (at InsertDelete 0 0 0 3) 12020000000 1
+    ∷ broken alphabetical 01102000000 (at InsertDelete 3 0 0 4) 01202000000 1
     -- S3
-    ∷ clean 11000000000 11111111111
+    ∷ clean sample 11000000000 11111111111
+    ∷ clean alphabetical 01100000000 11111111111
     -- S4
-    ∷ clean 10020000000 12222222222
+    ∷ clean sample 10020000000 12222222222
+    ∷ clean alphabetical 01002000000 21222222222
     -- S5
-    ∷ broken 00001201000 (at Chain 4 0 2 5) 00002201000 1
+    ∷ broken sample 00001201000 (at Chain 4 0 2 5) 00002201000 1
+    ∷ broken alphabetical 00000120100 (at Chain 7 0 2 6) 00000220100 1
     -- S6
-    ∷ clean 00001001000 22221121222
+    ∷ clean sample 00001001000 22221121222
+    ∷ clean alphabetical 00000100100 22222112122
     -- S7
-    ∷ broken 00000001012 (at Cycle 4 2 2 10) 00000001022 1
+    ∷ broken sample 00000001012 (at Cycle 4 2 2 10) 00000001022 1
+    ∷ broken alphabetical 20000000101 (at Cycle 7 2 2 0) 20000000102 1
     -- S8
-    ∷ clean 00000001010 22222221211
+    ∷ clean sample 00000001010 22222221211
+    ∷ clean alphabetical 00000000101 12222222121
     -- S9
-    ∷ broken 11021201000 (at InsertDelete 0 0 0 3) 12022201000 2
+    ∷ broken sample 11021201000 (at InsertDelete 0 0 0 3) 12022201000 2
+    ∷ broken alphabetical 01102120100 (at InsertDelete 3 0 0 4) 01202220100 2
     -- S10, both ways
-    ∷ proposed 11020000000 12020000000 (done 1)
-    ∷ proposed 11020000000 11000000000 (refusal 15 3)
+    ∷ proposed sample 11020000000 12020000000 (done 1)
+    ∷ proposed alphabetical 01102000000 01202000000 (done 1)
+    ∷ proposed sample 11020000000 11000000000 (refusal 15 3)
+    ∷ proposed alphabetical 01102000000 01100000000 (refusal 15 4)
     ∷ []
 
 abbrev pub Right : Row → Type 0
-Right (judges m b o n count) = Verdict sample m b × Comes sample m o × Mends sample m n count
-Right (proposes m n a) = ProposeAnswer sample m n a
+Right (judges ws m b o n count) = Verdict ws m b × Comes ws m o × Mends ws m n count
+Right (proposes ws m n a) = ProposeAnswer ws m n a
 
 -- a row with its answers computed anew
 abbrev again : Row → Row
-again (judges m b o n count) = let r = mendBy sample m in judges m (verdictBy sample m) (outcomeBy sample m) (r .marks) (r .count)
-again (proposes m n a) = proposes m n (proposeBy sample m n)
+again (judges ws m b o n count) = let r = mendBy ws m in judges ws m (verdictBy ws m) (outcomeBy ws m) (r .marks) (r .count)
+again (proposes ws m n a) = proposes ws m n (proposeBy ws m n)
 
 again-right : (r : Row) → Right (again r)
-again-right (judges m b o n count) = (verdict-by sample m, outcome-by sample m, mend-by sample m)
-again-right (proposes m n a) = propose-by sample m n
+again-right (judges ws m b o n count) = (verdict-by ws m, outcome-by ws m, mend-by ws m)
+again-right (proposes ws m n a) = propose-by ws m n
 
 computed : map again rows ≡ rows
 unfolding sumBelow ruleOf ruleAt childrenAt countOf privilegesAt firstPrivilege privileges replaceOf

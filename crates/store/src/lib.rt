@@ -44,7 +44,7 @@ fn outcome_of(answer: Answer) -> Outcome
     }
 }
 
-// Checks a run of words: 0 and V where it is a table, else 1 to 9 and the place. The other six numbers are 0.
+// Checks a run of words: 0 and V where it is a table, else 1 to 9 or 19 and the place. The other six numbers are 0.
 #[no_mangle]
 pub extern "C" fn finnedscarf_check_table(words: &[u16]) -> Outcome
     ensures { λ r. ⌜ Told (CheckAnswer (now (words .entry))) r ⌝ }
@@ -53,7 +53,7 @@ pub extern "C" fn finnedscarf_check_table(words: &[u16]) -> Outcome
     outcome_of(refused(checked.number, checked.place))
 }
 
-// Judges a policy: refuses with 1 to 11, or answers 0 with the first breach, five zeros where there is none.
+// Judges a policy: refuses with 1 to 11 or 19, or answers 0 with the first breach, five zeros where there is none.
 #[no_mangle]
 pub extern "C" fn finnedscarf_judge_policy(words: &[u16], marks: &[u8]) -> Outcome
     ensures { λ r. ⌜ Told (JudgeAnswer (now (words .entry)) (now (marks .entry))) r ⌝ }
@@ -61,7 +61,7 @@ pub extern "C" fn finnedscarf_judge_policy(words: &[u16], marks: &[u8]) -> Outco
     outcome_of(judge_policy(words, marks))
 }
 
-// Completes a policy with the least permission: refuses with 1 to 12 or 16 and leaves the result as it was, or writes V decided marks into it
+// Completes a policy with the least permission: refuses with 1 to 12, 16 or 19 and leaves the result as it was, or writes V decided marks into it
 // and keeps its rest.
 #[no_mangle]
 pub extern "C" fn finnedscarf_complete(words: &[u16], marks: &[u8], out: &mut [u8]) -> Outcome
@@ -70,7 +70,7 @@ pub extern "C" fn finnedscarf_complete(words: &[u16], marks: &[u8], out: &mut [u
     outcome_of(complete(words, marks, out))
 }
 
-// Mends a policy: refuses with 1 to 12 and leaves the result as it was, or writes what the rule gives into it, keeps its rest, and counts the
+// Mends a policy: refuses with 1 to 12 or 19 and leaves the result as it was, or writes what the rule gives into it, keeps its rest, and counts the
 // marks taken.
 #[no_mangle]
 pub extern "C" fn finnedscarf_mend(words: &[u16], marks: &[u8], out: &mut [u8]) -> Outcome
@@ -79,7 +79,7 @@ pub extern "C" fn finnedscarf_mend(words: &[u16], marks: &[u8], out: &mut [u8]) 
     outcome_of(mend(words, marks, out))
 }
 
-// Judges a proposed mend: refuses with 1 to 11 and 13 to 16, or accepts it with the number of changed marks.
+// Judges a proposed mend: refuses with 1 to 11, 13 to 16 or 19, or accepts it with the number of changed marks.
 #[no_mangle]
 pub extern "C" fn finnedscarf_judge_mend(words: &[u16], marks: &[u8], proposed: &[u8]) -> Outcome
     ensures { λ r. ⌜ Told (ProposeAnswer (now (words .entry)) (now (marks .entry)) (now (proposed .entry))) r ⌝ }

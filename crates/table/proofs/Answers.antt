@@ -8,17 +8,17 @@ use native.Mathlib.Omega.{arith}
 use lib.ListN.{getD}
 use Rattle.table.specs.Lowest.{LowestAt}
 use Rattle.table.specs.Privilege.{privileges}
-use Rattle.table.specs.Check.{numberOf, Passes, Refused, Accepted, TableAnswer, refused, accepted}
+use Rattle.table.specs.Check.{numberOf, rankOf, Passes, Refused, Accepted, TableAnswer, refused, accepted}
 use Rattle.table.specs.declared.check.Check.{Check}
-use Rattle.table.specs.declared.check.Check.the-variants.{Format, Layout, Kind, Count, Stretch, Bounds, Twice, Orphan, Total}
+use Rattle.table.specs.declared.check.Check.the-variants.{Format, Layout, Kind, Count, Stretch, Bounds, Twice, Cycle, Unreached, Total}
 use Rattle.table.proofs.Lists.{le-or-lt}
 use Rattle.table.proofs.Test.{isEqual, every}
 
--- the check of a number from 1 to 9
+-- the check of a rank from 1 to 10
 abbrev pub checkOf : ℕ → Check
-checkOf n = getD (Total ∷ Format ∷ Layout ∷ Kind ∷ Count ∷ Stretch ∷ Bounds ∷ Twice ∷ Orphan ∷ []) n Total
+checkOf n = getD (Total ∷ Format ∷ Layout ∷ Kind ∷ Count ∷ Stretch ∷ Bounds ∷ Twice ∷ Cycle ∷ Unreached ∷ []) n Total
 
-check-of : (c : Check) → checkOf (numberOf c) ≡ c
+check-of : (c : Check) → checkOf (rankOf c) ≡ c
 check-of Format = refl
 check-of Layout = refl
 check-of Kind = refl
@@ -26,34 +26,48 @@ check-of Count = refl
 check-of Stretch = refl
 check-of Bounds = refl
 check-of Twice = refl
-check-of Orphan = refl
+check-of Cycle = refl
+check-of Unreached = refl
 check-of Total = refl
 
--- and that check has the number
-pub check-number : (k : ℕ) → k < 9 → numberOf (checkOf (k + 1)) ≡ k + 1
-check-number = every 9 (λ k. isEqual (numberOf (checkOf (k + 1))) (k + 1)) .out tt
+-- and that check has the rank
+pub check-rank : (k : ℕ) → k < 10 → rankOf (checkOf (k + 1)) ≡ k + 1
+check-rank = every 10 (λ k. isEqual (rankOf (checkOf (k + 1))) (k + 1)) .out tt
 
-pub number-inj : (c d : Check) → numberOf c ≡ numberOf d → c ≡ d
-number-inj c d e = sym (check-of c) ∙ ap checkOf e ∙ check-of d
+pub rank-inj : (c d : Check) → rankOf c ≡ rankOf d → c ≡ d
+rank-inj c d e = sym (check-of c) ∙ ap checkOf e ∙ check-of d
 
-pub number-range : (c : Check) → (1 ≤ numberOf c) × (numberOf c < 10)
-number-range Format = omega arith
-number-range Layout = omega arith
-number-range Kind = omega arith
-number-range Count = omega arith
-number-range Stretch = omega arith
-number-range Bounds = omega arith
-number-range Twice = omega arith
-number-range Orphan = omega arith
-number-range Total = omega arith
+pub number-some : (c : Check) → 1 ≤ numberOf c
+number-some Format = omega arith
+number-some Layout = omega arith
+number-some Kind = omega arith
+number-some Count = omega arith
+number-some Stretch = omega arith
+number-some Bounds = omega arith
+number-some Twice = omega arith
+number-some Cycle = omega arith
+number-some Unreached = omega arith
+number-some Total = omega arith
+
+pub rank-range : (c : Check) → (1 ≤ rankOf c) × (rankOf c < 11)
+rank-range Format = omega arith
+rank-range Layout = omega arith
+rank-range Kind = omega arith
+rank-range Count = omega arith
+rank-range Stretch = omega arith
+rank-range Bounds = omega arith
+rank-range Twice = omega arith
+rank-range Cycle = omega arith
+rank-range Unreached = omega arith
+rank-range Total = omega arith
 
 -- one more check passes
-pub earlier-more : (ws : List ℕ) (n : ℕ) (check : Check) → numberOf check ≡ n → ((c : Check) → numberOf c < n → Passes ws c) → Passes ws check
-    → (c : Check) → numberOf c < n + 1 → Passes ws c
+pub earlier-more : (ws : List ℕ) (n : ℕ) (check : Check) → rankOf check ≡ n → ((c : Check) → rankOf c < n → Passes ws c) → Passes ws check
+    → (c : Check) → rankOf c < n + 1 → Passes ws c
 earlier-more ws n check e h g c l = go (eq-or-lt-of-le l)
   where
-    go : (suc (numberOf c) ≡ n + 1) ⊎ (suc (numberOf c) < n + 1) → Passes ws c
-    go (inl q) = let same : check ≡ c = number-inj check c (omega arith) in rw same at g
+    go : (suc (rankOf c) ≡ n + 1) ⊎ (suc (rankOf c) < n + 1) → Passes ws c
+    go (inl q) = let same : check ≡ c = rank-inj check c (omega arith) in rw same at g
     go (inr k) = h c (omega arith)
 
 -- a check that fails does not pass
@@ -69,10 +83,10 @@ lowest-one {Good} {n} {j} {k} a b = go (le-or-lt j k) (le-or-lt k j)
     go (inr g) h = absurd (b .fails (a .before k g))
 
 check-one : {ws : List ℕ} {c d : Check} {p q : ℕ} → Refused ws c p → Refused ws d q → c ≡ d
-check-one {ws} {c} {d} a b = go (le-or-lt (numberOf c) (numberOf d)) (le-or-lt (numberOf d) (numberOf c))
+check-one {ws} {c} {d} a b = go (le-or-lt (rankOf c) (rankOf d)) (le-or-lt (rankOf d) (rankOf c))
   where
-    go : (numberOf c ≤ numberOf d) ⊎ (numberOf d < numberOf c) → (numberOf d ≤ numberOf c) ⊎ (numberOf c < numberOf d) → c ≡ d
-    go (inl g) (inl h) = number-inj c d (omega arith)
+    go : (rankOf c ≤ rankOf d) ⊎ (rankOf d < rankOf c) → (rankOf d ≤ rankOf c) ⊎ (rankOf c < rankOf d) → c ≡ d
+    go (inl g) (inl h) = rank-inj c d (omega arith)
     go (inl g) (inr h) = absurd (fails-once a (b .earlier c h))
     go (inr g) h = absurd (fails-once b (a .earlier d g))
 
@@ -88,7 +102,7 @@ answer-one (accepted e v a) (accepted f w b) = (e ∙ sym f, v ∙ sym w)
 
 -- number 0: the words are a table, and the place is V
 pub answer-accepted : {ws : List ℕ} {place : ℕ} → TableAnswer ws 0 place → Accepted ws × (place ≡ privileges ws)
-answer-accepted (refused c e r) = absurd (omega (arith, number-range c))
+answer-accepted (refused c e r) = absurd (omega (arith, number-some c))
 answer-accepted (accepted e v a) = (a, v)
 
 -- a table has number 0

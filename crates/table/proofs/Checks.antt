@@ -25,15 +25,24 @@ module _ {count : ℕ} where
 pub running-next : (ws : List ℕ) (t : ℕ) → t < types ws → Follows ws t → firstAt ws t + countAt ws t ≡ running ws (t + 1)
 running-next ws t l f = ap (λ (n : ℕ). n + countAt ws t) (f .first l) ∙ sym (sum-more (countAt ws) t)
 
--- a number from 1 to 9 that is none of the first eight
-pub last-number : (n : ℕ) → (1 ≤ n) × (n ≤ 9) → (n ≢ 1) × (n ≢ 2) × (n ≢ 3) × (n ≢ 4) × (n ≢ 5) × (n ≢ 6) × (n ≢ 7) × (n ≢ 8) → 9 ≡ n
-last-number zero h d = absurd (omega arith)
-last-number (suc zero) h d = absurd (d .0 refl)
-last-number (suc (suc zero)) h d = absurd (d .1 refl)
-last-number (suc (suc (suc zero))) h d = absurd (d .2 refl)
-last-number (suc (suc (suc (suc zero)))) h d = absurd (d .3 refl)
-last-number (suc (suc (suc (suc (suc zero))))) h d = absurd (d .4 refl)
-last-number (suc (suc (suc (suc (suc (suc zero)))))) h d = absurd (d .5 refl)
-last-number (suc (suc (suc (suc (suc (suc (suc zero))))))) h d = absurd (d .6 refl)
-last-number (suc (suc (suc (suc (suc (suc (suc (suc zero)))))))) h d = absurd (d .7 refl)
-last-number (suc (suc (suc (suc (suc (suc (suc (suc (suc n))))))))) h d = omega arith
+-- a rank from 1 to 10 that is none of the first nine
+pub last-rank : (n : ℕ) → (1 ≤ n) × (n ≤ 10) → (n ≢ 1) × (n ≢ 2) × (n ≢ 3) × (n ≢ 4) × (n ≢ 5) × (n ≢ 6) × (n ≢ 7) × (n ≢ 8) × (n ≢ 9) → 10 ≡ n
+last-rank zero h d = absurd (omega arith)
+last-rank (suc zero) h d = absurd (d .0 refl)
+last-rank (suc (suc zero)) h d = absurd (d .1 refl)
+last-rank (suc (suc (suc zero))) h d = absurd (d .2 refl)
+last-rank (suc (suc (suc (suc zero)))) h d = absurd (d .3 refl)
+last-rank (suc (suc (suc (suc (suc zero))))) h d = absurd (d .4 refl)
+last-rank (suc (suc (suc (suc (suc (suc zero)))))) h d = absurd (d .5 refl)
+last-rank (suc (suc (suc (suc (suc (suc (suc zero))))))) h d = absurd (d .6 refl)
+last-rank (suc (suc (suc (suc (suc (suc (suc (suc zero)))))))) h d = absurd (d .7 refl)
+last-rank (suc (suc (suc (suc (suc (suc (suc (suc (suc zero))))))))) h d = absurd (d .8 refl)
+last-rank (suc (suc (suc (suc (suc (suc (suc (suc (suc (suc n)))))))))) h d = omega arith
+
+pub few-children : (kind count : ℕ) → kind ≤ 4 → RightCount kind count → count ≤ 16
+few-children zero n h r = omega (arith, r .empty refl)
+few-children (suc zero) n h r = omega (arith, r .text refl)
+few-children (suc (suc zero)) n h r = r .sequence refl .1
+few-children (suc (suc (suc zero))) n h r = r .choice refl .1
+few-children (suc (suc (suc (suc zero)))) n h r = omega (arith, r .star refl)
+few-children (suc (suc (suc (suc (suc k))))) n h r = absurd (omega arith)

@@ -1,7 +1,7 @@
 -- What the layers above rely on of an accepted table, one that `check_table` answers with number 0. Assumes nothing.
 use Prim.Native.Nat.{ℕ, zero, suc, _≤_, _<_}
 use mathlib.Core.Path.{_≡_, refl, sym, _∙_}
-use mathlib.Core.Logic.{_≢_, _⊎_, inl, inr}
+use mathlib.Core.Logic.{_⊎_, inl, inr}
 use mathlib.Core.List.{List}
 use native.Mathlib.Omega.{arith}
 use lib.ListN.{length}
@@ -9,9 +9,12 @@ use Rattle.table.specs.Words.{types, HasRecord, kindAt, countAt, firstAt
 use Rattle.table.specs.Rule.{ruleOf, ruleAt, kindIn, countOf, childrenAt, HasChildren, childAt, IsStar, Child}
 use Rattle.table.specs.Privilege.{privileges}
 use Rattle.table.specs.Check.{RightCount, Accepted}
-use Rattle.table.specs.declared.check.Check.the-variants.{Kind, Count, Bounds, Twice, Orphan, Total}
+use Rattle.table.specs.declared.check.Check.the-variants.{Kind, Count, Bounds, Twice, Cycle, Unreached, Total}
 use Rattle.table.proofs.Lists.{le-or-lt}
-use Rattle.table.proofs.Children.{Tiled, tiled, laid-record, tiled-children, count-read, children-all}
+use Rattle.table.specs.Below.{OffCycle, FromRoot}
+use Rattle.table.specs.Childed.{Tiled, Childed}
+use Rattle.table.specs.Accepting.{Ordered}
+use Rattle.table.proofs.Children.{childed, laid-record, tiled-children, count-read, children-all}
 
 pub record Facts (ws : List ℕ) : Type 0 where
   pub some : 1 ≤ types ws
@@ -22,8 +25,9 @@ pub record Facts (ws : List ℕ) : Type 0 where
   pub child-inside : (x i : ℕ) → x < types ws → i < countOf ws x → childAt ws x i < types ws
   pub child-once : (x i j : ℕ) → x < types ws → i < countOf ws x → j < countOf ws x → childAt ws x i ≡ childAt ws x j → i ≡ j
   pub star-one : (x : ℕ) → IsStar ws x → countOf ws x ≡ 1
-  -- every type but 0 is somebody's child
-  pub somebodys : (x : ℕ) → x < types ws → x ≢ 0 → (y : ℕ) × Child ws y x
+  -- no type is on a cycle, and each is reached from the root
+  pub off-cycle : (x : ℕ) → x < types ws → OffCycle ws x
+  pub reached : (x : ℕ) → x < types ws → FromRoot ws x
   pub privileges-few : privileges ws ≤ 4096
 
 count-few : (kind count : ℕ) → kind ≤ 4 → RightCount kind count → count ≤ 16
@@ -45,8 +49,14 @@ kind-right (suc (suc (suc (suc zero)))) a n h = refl
 kind-right (suc (suc (suc (suc (suc k))))) a n h = absurd (omega arith)
 
 module _ {ws : List ℕ} (a : Accepted ws) where
+  pub accepted-childed : Childed ws
+  accepted-childed = childed Total (omega arith) (λ c l. a .passes c)
+
+  pub accepted-ordered : Ordered ws
+  accepted-ordered = record { off-cycle = a .passes Cycle; reached = a .passes Unreached }
+
   tiled-all : Tiled ws
-  tiled-all = tiled ws Total (omega arith) (λ c l. a .passes c)
+  tiled-all = accepted-childed .tiled
 
   -- a type's record and its children stand in the run
   pub has-record : {x : ℕ} → x < types ws → HasRecord ws x
@@ -54,6 +64,10 @@ module _ {ws : List ℕ} (a : Accepted ws) where
 
   pub has-children : {x : ℕ} → x < types ws → HasChildren ws x
   has-children {x} l = tiled-children tiled-all x l
+
+  -- and it has as many children as its record says
+  pub count-recorded : {x : ℕ} → x < types ws → countOf ws x ≡ countAt ws x
+  count-recorded {x} l = count-read tiled-all x l
 
   kind-read : (x : ℕ) → x < types ws → kindIn (ruleAt ws x) ≡ kindAt ws x
   unfolding ruleAt
@@ -70,20 +84,17 @@ module _ {ws : List ℕ} (a : Accepted ws) where
       go (inl g) (inr h) = absurd (a .passes Twice x l i j h (rw all hj) e)
       go (inr g) h = absurd (a .passes Twice x l j i g (rw all hi) (sym e))
 
-  somebody : (x : ℕ) → x ≢ 0 → (x ≡ 0) ⊎ ((y : ℕ) × Child ws y x) → (y : ℕ) × Child ws y x
-  somebody x d (inl e) = absurd (d e)
-  somebody x d (inr c) = c
-
   pub facts : Facts ws
   facts = record {
     some = tiled-all .laid .some;
     few = tiled-all .laid .few;
     children-few = λ x l. rw (count-read tiled-all x l) (count-few (kindAt ws x) (countAt ws x) (a .passes Kind x l) (a .passes Count x l));
     children-here = λ x l. children-all tiled-all x l;
-    child-inside = λ x i l h. a .passes Bounds x l i (rw (children-all tiled-all x l) h) .0;
+    child-inside = λ x i l h. a .passes Bounds x l i (rw (children-all tiled-all x l) h);
     child-once = once;
     star-one = λ x s. count-read tiled-all x (s .type) ∙ a .passes Count x (s .type) .star (sym (kind-read x (s .type)) ∙ s .kind-is);
-    somebodys = λ x l d. somebody x d (a .passes Orphan x l);
+    off-cycle = a .passes Cycle;
+    reached = a .passes Unreached;
     privileges-few = a .passes Total 0 (omega arith) .few;
   }
 

@@ -71,3 +71,8 @@ pub tells-all-more : (Good : ℕ → Type 0) (i : ℕ) (r b : Bool) → Tells ((
 tells-all-more Good i true true h g = below-more _ _ h g
 tells-all-more Good i true false h g = λ all. g (all i (omega arith))
 tells-all-more Good i false b h g = λ all. h (λ k l. all k (omega arith))
+
+-- the other flag
+pub tells-not : (P : Type 0) (r : Bool) → Tells P r → Tells (¬ P) (not r)
+tells-not P true h = λ f. f h
+tells-not P false h = h

@@ -3,12 +3,14 @@
 use Prim.Native.Nat.{ℕ, zero, suc, _+_, _*_}
 use mathlib.Core.Path.{_≡_, refl}
 use mathlib.Core.List.{List, [], _∷_, _++_, map}
+use lib.ListN.{getD}
 use Rattle.table.specs.Sum.{sumBelow}
 use Rattle.table.specs.Rule.{ruleOf, ruleAt, childrenAt, countOf}
 use Rattle.table.specs.Privilege.{privilegesAt, firstPrivilege, privileges}
 use Rattle.table.specs.Check.{TableAnswer}
+use Rattle.table.specs.Renumbered.{blocks, renumber}
 use Rattle.table.proofs.TableTests.{answerOf, answer-of}
-use Rattle.table.proofs.Tables.{Each, each-computed, sampleWith, sample, lone}
+use Rattle.table.proofs.Tables.{Each, each-computed, sampleWith, sample, alphabetical, lone}
 
 -- words, and the number and the place of their answer
 pub record Row : Type 0 where
@@ -49,6 +51,8 @@ abbrev pub rows : List Row
 rows =
     -- the sample schema
     row sample 0 11
+    -- its types in alphabetical order
+    ∷ row alphabetical 0 11
     -- a lone empty type
     ∷ row lone 0 0
     -- a choice of one child has no privilege
@@ -63,7 +67,7 @@ rows =
     ∷ row (1 ∷ 11 ∷ 1 ∷ 0 ∷ 8 ∷ 0 ∷ 11 ∷ []) 1 0
     -- word 0 is 2
     ∷ row (2 ∷ 11 ∷ 1 ∷ 0 ∷ 8 ∷ 0 ∷ 11 ∷ 0 ∷ 0 ∷ 0 ∷ 0 ∷ []) 1 0
-    -- the root is 1
+    -- the root is 1 where E is 1
     ∷ row (1 ∷ 11 ∷ 1 ∷ 1 ∷ 8 ∷ 0 ∷ 11 ∷ 0 ∷ 0 ∷ 0 ∷ 0 ∷ []) 2 0
     -- a run one word short of word 1
     ∷ row (1 ∷ 11 ∷ 1 ∷ 0 ∷ 8 ∷ 0 ∷ 11 ∷ 0 ∷ 0 ∷ 0 ∷ []) 2 0
@@ -87,16 +91,22 @@ rows =
     ∷ row (1 ∷ 16 ∷ 2 ∷ 0 ∷ 8 ∷ 2 ∷ 14 ∷ 0 ∷ 2 ∷ 1 ∷ 0 ∷ 0 ∷ 0 ∷ 1 ∷ 1 ∷ 1 ∷ []) 5 2
     -- a total of 2 where C is 1
     ∷ row (1 ∷ 15 ∷ 2 ∷ 0 ∷ 8 ∷ 1 ∷ 14 ∷ 0 ∷ 2 ∷ 2 ∷ 0 ∷ 0 ∷ 0 ∷ 2 ∷ 1 ∷ []) 5 2
-    -- a star whose child's number is its own
-    ∷ row (1 ∷ 12 ∷ 1 ∷ 0 ∷ 8 ∷ 1 ∷ 11 ∷ 2 ∷ 4 ∷ 1 ∷ 0 ∷ 0 ∷ []) 6 0
     -- child 2 where E is 2
     ∷ row (1 ∷ 15 ∷ 2 ∷ 0 ∷ 8 ∷ 1 ∷ 14 ∷ 0 ∷ 2 ∷ 1 ∷ 0 ∷ 0 ∷ 0 ∷ 1 ∷ 2 ∷ []) 6 0
-    -- type 1 has child 0
-    ∷ row (1 ∷ 16 ∷ 2 ∷ 0 ∷ 8 ∷ 2 ∷ 14 ∷ 0 ∷ 2 ∷ 1 ∷ 0 ∷ 2 ∷ 1 ∷ 1 ∷ 1 ∷ 0 ∷ []) 6 1
     -- type 1 has child 2 twice
     ∷ row (1 ∷ 20 ∷ 3 ∷ 0 ∷ 8 ∷ 3 ∷ 17 ∷ 0 ∷ 2 ∷ 1 ∷ 0 ∷ 2 ∷ 2 ∷ 1 ∷ 0 ∷ 0 ∷ 3 ∷ 1 ∷ 2 ∷ 2 ∷ []) 7 1
+    -- a star whose child's number is its own
+    ∷ row (1 ∷ 12 ∷ 1 ∷ 0 ∷ 8 ∷ 1 ∷ 11 ∷ 2 ∷ 4 ∷ 1 ∷ 0 ∷ 0 ∷ []) 19 0
+    -- types 0 and 1, each the other's child
+    ∷ row (1 ∷ 16 ∷ 2 ∷ 0 ∷ 8 ∷ 2 ∷ 14 ∷ 0 ∷ 2 ∷ 1 ∷ 0 ∷ 2 ∷ 1 ∷ 1 ∷ 1 ∷ 0 ∷ []) 19 0
+    -- type 1 is its own child, and type 0 has it below it
+    ∷ row (1 ∷ 16 ∷ 2 ∷ 0 ∷ 8 ∷ 2 ∷ 14 ∷ 0 ∷ 2 ∷ 1 ∷ 0 ∷ 2 ∷ 1 ∷ 1 ∷ 1 ∷ 1 ∷ []) 19 1
+    -- types 1 and 2 are each the other's child, and the root reaches neither; word 7 is wrong too
+    ∷ row (1 ∷ 19 ∷ 3 ∷ 0 ∷ 8 ∷ 2 ∷ 17 ∷ 9 ∷ 0 ∷ 0 ∷ 0 ∷ 2 ∷ 1 ∷ 0 ∷ 2 ∷ 1 ∷ 1 ∷ 2 ∷ 1 ∷ []) 19 1
     -- a lone empty type and a second, which is nobody's child
     ∷ row (1 ∷ 14 ∷ 2 ∷ 0 ∷ 8 ∷ 0 ∷ 14 ∷ 0 ∷ 0 ∷ 0 ∷ 0 ∷ 0 ∷ 0 ∷ 0 ∷ []) 8 1
+    -- type 0 has type 1 as its child, and type 1 is the root
+    ∷ row (1 ∷ 15 ∷ 2 ∷ 1 ∷ 8 ∷ 1 ∷ 14 ∷ 0 ∷ 2 ∷ 1 ∷ 0 ∷ 0 ∷ 0 ∷ 1 ∷ 1 ∷ []) 8 0
     -- the sample schema, with 12 in word 7
     ∷ row (sampleWith 12) 9 0
     -- 18 choices of 16 children and 16 texts: V is 4,336, and word 7 says so
@@ -116,3 +126,8 @@ computed = refl
 
 pub samples : Each Right rows
 samples = each-computed Right again (λ r. answer-of (r .words)) rows computed
+
+-- the sample schema in alphabetical order is the sample schema renumbered
+pub by-name : renumber (λ t. getD (3 ∷ 4 ∷ 5 ∷ 6 ∷ 7 ∷ 0 ∷ 2 ∷ 1 ∷ []) t 0) (λ t. getD (5 ∷ 7 ∷ 6 ∷ 0 ∷ 1 ∷ 2 ∷ 3 ∷ 4 ∷ []) t 0) sample ≡ alphabetical
+unfolding renumber blocks sumBelow ruleOf ruleAt childrenAt
+by-name = refl

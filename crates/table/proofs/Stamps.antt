@@ -1,118 +1,125 @@
--- What one pass over the types has shown so far, with the stamps that it gave to their children. Assumes nothing.
-use Prim.Native.Nat.{ℕ, _+_, _-_, _*_, _≤_, _<_}
+-- What one pass over the types has shown so far, with the stamps and the counts that it gave to their children. Assumes nothing.
+use Prim.Native.Nat.{ℕ, zero, suc, _+_, _-_, _*_, _≤_, _<_}
 use mathlib.Core.Path.{_≡_, refl, sym, ap, _∙_}
-use mathlib.Core.Logic.{_≢_, _⊎_, inl, inr}
-use mathlib.Core.List.{List}
+use mathlib.Core.Logic.{_≢_}
+use mathlib.Core.List.{List, []}
 use native.Mathlib.Nat.{add-sub-cancel-left}
 use native.Mathlib.Decide.{ℕ-discrete}
 use native.Mathlib.Omega.{arith}
 use borrow.Author.Count.{below-more}
-use lib.ListN.{length, getD, set, take, drop, replicate, getD-replicate, length-set}
+use lib.ListN.{length, getD, set, take, drop, replicate, getD-replicate, length-set, length-take}
 use lib.Seq.{getD-set-same, getD-set-other}
-use Rattle.table.specs.Seen.{Stands}
 use Rattle.table.specs.Sum.{sumBelow}
-use Rattle.table.specs.Words.{Within, Widened, types, entries, kindAt, countAt, firstAt, running}
-use Rattle.table.specs.Rule.{ruleOf, ruleAt, childrenAt, Child}
+use Rattle.table.specs.Words.{Within, Widened, types, kindAt, countAt, firstAt, running}
+use Rattle.table.specs.Rule.{ruleOf, ruleAt, childrenAt}
 use Rattle.table.specs.Privilege.{privilegesOf, privilegesAt, firstPrivilege, privileges}
-use Rattle.table.specs.Check.{Headed, Laid, RightCount, Bounded, Differ, Somebodys, Passes, Accepted}
-use Rattle.table.specs.Accept.{Stamped, Stamps, TypesPass}
+use Rattle.table.specs.Check.{Headed, Laid, RightCount, Inside, Differ, Passes, Accepted}
+use Rattle.table.specs.Childed.{Childed}
+use Rattle.table.specs.Counts.{occurs, entriesOf}
+use Rattle.table.specs.Accept.{Countable, Stamped, Totals, TypesPass}
+use Rattle.table.specs.Accepting.{Ordered}
 use Rattle.table.specs.declared.check.Check.{Check}
-use Rattle.table.specs.declared.check.Check.the-variants.{Format, Layout, Kind, Count, Stretch, Bounds, Twice, Orphan, Total}
+use Rattle.table.specs.declared.check.Check.the-variants.{Format, Layout, Kind, Count, Stretch, Bounds, Twice, Cycle, Unreached, Total}
 use Rattle.table.specs.declared.rule.Rule.{Rule}
 use Rattle.table.proofs.Children.{children-right}
+use Rattle.table.proofs.Checks.{few-children}
 use Rattle.table.proofs.Sum.{sum-more}
+use Rattle.table.proofs.Sums.{occurs-none, occurs-here, occurs-not, occurs-few}
 use Rattle.table.proofs.Privileges.{first-start, first-next}
-use Rattle.table.proofs.SeenSoFar.{Among}
 
--- the first n children of type t have its stamp, and only they got one
-pub record StampedSoFar (e t : ℕ) (kids : List ℕ) (n : ℕ) (before after : List ℕ) : Type 0 where
+-- the first n children of type t have its stamp, and each is counted
+pub record StampedSoFar (e t : ℕ) (kids : List ℕ) (n : ℕ) (before stamps counts : List ℕ) : Type 0 where
   pub within : n ≤ length kids
-  pub size : length after ≡ 256
-  pub bounded : (j : ℕ) → j < n → (getD kids j 0 < e) × (t < getD kids j 0)
+  pub stamps-size : length stamps ≡ 256
+  pub counts-size : length counts ≡ 256
+  pub inside : (j : ℕ) → j < n → getD kids j 0 < e
   pub differ : (j : ℕ) → j < n → (i : ℕ) → i < j → getD kids i 0 ≢ getD kids j 0
-  pub marked : (j : ℕ) → j < n → getD after (getD kids j 0) 0 ≡ t + 1
-  pub only : (x : ℕ) → getD after x 0 ≢ 0 → (getD before x 0 ≢ 0) ⊎ Among kids n x
+  pub marked : (j : ℕ) → j < n → getD stamps (getD kids j 0) 0 ≡ t
+  pub small : (x : ℕ) → x < 256 → getD before x 0 ≤ 16 * t
+  pub each : (x : ℕ) → x < 256 → getD counts x 0 ≡ getD before x 0 + occurs kids x n
 
-pub stamp-start : {e t : ℕ} {kids before : List ℕ} → length before ≡ 256 → StampedSoFar e t kids 0 before before
-stamp-start h = record {
+pub stamp-start : {e t : ℕ} {kids stamps counts : List ℕ} → Countable t stamps counts → StampedSoFar e t kids 0 counts stamps counts
+stamp-start {kids = kids} h = record {
   within = omega arith;
-  size = h;
-  bounded = λ j l. absurd (omega arith);
+  stamps-size = h .stamps-size;
+  counts-size = h .counts-size;
+  inside = λ j l. absurd (omega arith);
   differ = λ j l. absurd (omega arith);
   marked = λ j l. absurd (omega arith);
-  only = λ x d. inl d;
+  small = h .small;
+  each = λ x l. omega (arith, occurs-none kids x);
 }
 
-module _ {e t n : ℕ} {kids before after : List ℕ} (s : StampedSoFar e t kids n before after) where
+module _ {e t n : ℕ} {kids before stamps counts : List ℕ} (s : StampedSoFar e t kids n before stamps counts) where
+  -- a count has room
+  pub stamp-room : (x : ℕ) → x < 256 → getD counts x 0 ≤ 16 * t + n
+  stamp-room x l = omega (arith, s .each x l, s .small x l, occurs-few kids x n)
+
   -- the next child has another stamp
-  pub stamp-more : n < length kids → e ≤ 256 → (c : ℕ) → c ≡ getD kids n 0 → c < e → t < c → getD after c 0 ≢ t + 1
-      → StampedSoFar e t kids (n + 1) before (set after c (t + 1))
-  stamp-more l few c is low above new = record {
+  pub stamp-more : n < length kids → e ≤ 256 → (c : ℕ) → c ≡ getD kids n 0 → c < e → getD stamps c 0 ≢ t
+      → StampedSoFar e t kids (n + 1) before (set stamps c t) (set counts c (getD counts c 0 + 1))
+  stamp-more l few c is low new = record {
     within = omega arith;
-    size = length-set after c (t + 1) ∙ s .size;
-    bounded = below-more _ _ (s .bounded) (omega arith, omega arith);
-    differ = below-more _ _ (s .differ) (λ i h q. new (ap (λ (x : ℕ). getD after x 0) (is ∙ sym q) ∙ s .marked i h));
-    marked = below-more _ _ (λ j h. kept j h (ℕ-discrete (getD kids j 0) c)) (ap (λ (x : ℕ). getD (set after c (t + 1)) x 0) (sym is) ∙ here);
-    only = λ x d. from x d (ℕ-discrete x c);
+    stamps-size = length-set stamps c t ∙ s .stamps-size;
+    counts-size = length-set counts c (getD counts c 0 + 1) ∙ s .counts-size;
+    inside = below-more _ _ (s .inside) (omega arith);
+    differ = below-more _ _ (s .differ) (λ i h q. new (ap (λ (x : ℕ). getD stamps x 0) (is ∙ sym q) ∙ s .marked i h));
+    marked = below-more _ _ (λ j h. kept j h (ℕ-discrete (getD kids j 0) c)) (ap (λ (x : ℕ). getD (set stamps c t) x 0) (sym is) ∙ here);
+    small = s .small;
+    each = λ x m. go x m (ℕ-discrete x c);
   }
     where
-      here : getD (set after c (t + 1)) c 0 ≡ t + 1
-      here = getD-set-same after c (t + 1) 0 (omega (arith, s .size))
+      here : getD (set stamps c t) c 0 ≡ t
+      here = getD-set-same stamps c t 0 (omega (arith, s .stamps-size))
 
-      kept : (j : ℕ) → j < n → Dec (getD kids j 0 ≡ c) → getD (set after c (t + 1)) (getD kids j 0) 0 ≡ t + 1
-      kept j h (yes q) = ap (λ (x : ℕ). getD (set after c (t + 1)) x 0) q ∙ here
-      kept j h (no d) = getD-set-other after c (getD kids j 0) (t + 1) 0 d ∙ s .marked j h
+      kept : (j : ℕ) → j < n → Dec (getD kids j 0 ≡ c) → getD (set stamps c t) (getD kids j 0) 0 ≡ t
+      kept j h (yes q) = ap (λ (x : ℕ). getD (set stamps c t) x 0) q ∙ here
+      kept j h (no d) = getD-set-other stamps c (getD kids j 0) t 0 d ∙ s .marked j h
 
-      more : (x : ℕ) → (getD before x 0 ≢ 0) ⊎ Among kids n x → (getD before x 0 ≢ 0) ⊎ Among kids (n + 1) x
-      more x (inl d) = inl d
-      more x (inr a) = inr (record { at = a .at; low = omega (arith, a .low); is = a .is })
+      go : (x : ℕ) → x < 256 → Dec (x ≡ c) → getD (set counts c (getD counts c 0 + 1)) x 0 ≡ getD before x 0 + occurs kids x (n + 1)
+      go x m (yes q) =
+          let now : getD (set counts c (getD counts c 0 + 1)) x 0 ≡ getD counts x 0 + 1 = rw q (getD-set-same counts c (getD counts c 0 + 1) 0 (omega (arith, s .counts-size))) in
+          omega (arith, s .each x m, occurs-here kids x n (sym is ∙ sym q))
+      go x m (no d) = omega (arith, getD-set-other counts c x (getD counts c 0 + 1) 0 d, s .each x m, occurs-not kids x n (λ q. d (sym q ∙ sym is)))
 
-      from : (x : ℕ) → getD (set after c (t + 1)) x 0 ≢ 0 → Dec (x ≡ c) → (getD before x 0 ≢ 0) ⊎ Among kids (n + 1) x
-      from x d (yes q) = inr (record { at = n; low = omega arith; is = sym is ∙ sym q })
-      from x d (no f) = more x (s .only x (rw (getD-set-other after c x (t + 1) 0 f) at d))
-
-  pub stamp-all : length kids ≤ n → Stamped e t kids before after
-  stamp-all l = record {
-    bounded = λ i h. s .bounded i (omega arith);
+  pub stamp-all : length kids ≤ n → length kids ≤ 16 → Stamped e t kids before stamps counts
+  stamp-all l few = record {
+    inside = λ i h. s .inside i (omega arith);
     differ = λ i j h k. s .differ j (omega arith) i h;
-    size = s .size;
-    only = λ x d. stands x (s .only x d);
+    countable = record { stamps-size = s .stamps-size; counts-size = s .counts-size; small = λ x h. omega (arith, stamp-room x h, s .within) };
+    each = λ x h. let q : n ≡ length kids = omega (arith, s .within) in rw q at (s .each x h);
   }
-    where
-      stands : (x : ℕ) → (getD before x 0 ≢ 0) ⊎ Among kids n x → (getD before x 0 ≢ 0) ⊎ Stands kids x
-      stands x (inl d) = inl d
-      stands x (inr a) = inr (a .at, omega (arith, s .within, a .low), a .is)
 
 -- type t passes checks 3 to 7
 pub record Sound (ws : List ℕ) (t : ℕ) : Type 0 where
   pub kind : kindAt ws t ≤ 4
   pub count : RightCount (kindAt ws t) (countAt ws t)
   pub first : firstAt ws t ≡ running ws t
-  pub bounded : Bounded (types ws) t (childrenAt ws t)
+  pub inside : Inside (types ws) (childrenAt ws t)
   pub differ : Differ (childrenAt ws t)
 
 -- the first n types do; index and sum are how many children and privileges they have
-pub record TypesSoFar (ws : List ℕ) (n index sum : ℕ) (stamps : List ℕ) : Type 0 where
+pub record TypesSoFar (ws : List ℕ) (n index sum : ℕ) (stamps counts : List ℕ) : Type 0 where
   pub within : n ≤ types ws
   pub sound : (t : ℕ) → t < n → Sound ws t
   pub index-is : index ≡ running ws n
   pub index-small : index < 131072
   pub sum-is : sum ≡ firstPrivilege ws n
   pub sum-small : sum ≤ 4294967296 * n
-  pub size : length stamps ≡ 256
-  pub stamped : Stamps ws stamps
+  pub countable : Countable n stamps counts
+  pub counted : (x : ℕ) → x < 256 → getD counts x 0 ≡ sumBelow (entriesOf ws x) n
 
-pub types-start : (ws : List ℕ) → Laid ws → TypesSoFar ws 0 0 0 (replicate 256 0)
+pub types-start : (ws : List ℕ) {stamps : List ℕ} → length stamps ≡ 256 → TypesSoFar ws 0 0 0 stamps (replicate 256 0)
 unfolding sumBelow
-types-start ws laid = record {
+types-start ws size = record {
   within = omega arith;
   sound = λ t l. absurd (omega arith);
   index-is = refl;
   index-small = omega arith;
   sum-is = sym (first-start ws);
   sum-small = omega arith;
-  size = refl;
-  stamped = λ x l d. absurd (d (getD-replicate {A = ℕ} 256 x 0 0 (omega (arith, laid .few))));
+  countable = record { stamps-size = size; counts-size = refl; small = λ x l. omega (arith, getD-replicate {A = ℕ} 256 x 0 0 l) };
+  counted = λ x l. getD-replicate {A = ℕ} 256 x 0 0 l;
 }
 
 -- the record of type n as it was read, right so far
@@ -124,54 +131,91 @@ pub record Read (ws : List ℕ) (n kind first count : ℕ) : Type 0 where
   pub right : RightCount kind count
 
 module _ {ws : List ℕ} {n kind first count : ℕ} (r : Read ws n kind first count) where
-  pub read-children : {kids : List ℕ} {e start : ℕ} → e ≡ types ws → start ≡ 8 + 3 * e + first → kids ≡ take (start + count - start) (drop start ws)
-      → kids ≡ childrenAt ws n
-  read-children {kids} {e} {start} te se k =
-      let same = children-right ws n (rw (← r .kind-is .is) (r .low)) (rw (← r .kind-is .is, ← r .count-is .is) (r .right)) in
-      k ∙ rw (add-sub-cancel-left, se, te, r .first-is .is, r .count-is .is) (sym same)
+  -- the stretch of its children, as it was read
+  module _ {kids : List ℕ} (start stop : ℕ) (until : stop ≡ start + count) (k : kids ≡ take (stop - start) (drop start ws)) where
+    pub read-children : {e : ℕ} → e ≡ types ws → start ≡ 8 + 3 * e + first → kids ≡ childrenAt ws n
+    read-children te se =
+        let same = children-right ws n (rw (← r .kind-is .is) (r .low)) (rw (← r .kind-is .is, ← r .count-is .is) (r .right)) in
+        k ∙ rw (until, add-sub-cancel-left, se, te, r .first-is .is, r .count-is .is) (sym same)
+
+    -- there are at most 16
+    pub read-few : length kids ≤ 16
+    read-few = omega (arith, few-children kind count (r .low) (r .right), ap length k ∙ length-take (stop - start) (drop start ws))
 
   pub read-privileges : {rule : Rule} {own : ℕ} → rule ≡ ruleOf kind first count → Within 4294967296 (privilegesOf rule) own → Within 4294967296 (privilegesAt ws n) own
   unfolding privilegesAt ruleAt
   read-privileges e p = rw (e, r .kind-is .is, r .first-is .is, r .count-is .is) at p
 
-module _ {ws stamps : List ℕ} {n index sum : ℕ} (s : TypesSoFar ws n index sum stamps) where
-  pub types-more : {kind count own e : ℕ} {kids after : List ℕ} → Read ws n kind index count → e ≡ types ws → n < e → kids ≡ childrenAt ws n
-      → Stamped e n kids stamps after → Within 4294967296 (privilegesAt ws n) own
-      → TypesSoFar ws (n + 1) (index + count) (sum + own) after
-  types-more {kind} {count} {own} {e} {kids} {after} r te l k st p = record {
+-- empty and text have no children, and 0 privileges and 1
+leaf-right : (kind : ℕ) → kind ≤ 1 → RightCount kind 0
+leaf-right kind low = record {
+  empty = λ e. refl;
+  text = λ e. refl;
+  sequence = λ e. absurd (omega arith);
+  choice = λ e. absurd (omega arith);
+  star = λ e. absurd (omega arith);
+}
+
+leaf-privileges : (kind first : ℕ) → kind ≤ 1 → Within 4294967296 (privilegesOf (ruleOf kind first 0)) kind
+unfolding ruleOf
+leaf-privileges zero first low = record { is = refl; small = omega arith }
+leaf-privileges (suc zero) first low = record { is = refl; small = omega arith }
+leaf-privileges (suc (suc k)) first low = absurd (omega arith)
+
+module _ {ws stamps counts : List ℕ} {n index sum : ℕ} (s : TypesSoFar ws n index sum stamps counts) where
+  pub types-more : {kind count own e : ℕ} {kids stamps-after counts-after : List ℕ} → Read ws n kind index count → e ≡ types ws → n < e → kids ≡ childrenAt ws n
+      → Stamped e n kids counts stamps-after counts-after → Within 4294967296 (privilegesAt ws n) own
+      → TypesSoFar ws (n + 1) (index + count) (sum + own) stamps-after counts-after
+  unfolding entriesOf
+  types-more {kind} {count} {own} {e} {kids} {stamps-after} {counts-after} r te l k st p = record {
     within = omega arith;
     sound = below-more _ _ (s .sound) (record {
       kind = rw (← r .kind-is .is) (r .low);
       count = rw (← r .kind-is .is, ← r .count-is .is) (r .right);
       first = sym (r .first-is .is) ∙ s .index-is;
-      bounded = g .bounded;
+      inside = g .inside;
       differ = g .differ;
     });
     index-is = rw (s .index-is, r .count-is .is) (sym (sum-more (countAt ws) n));
     index-small = omega (arith, r .first-is .small, r .count-is .small);
     sum-is = rw (s .sum-is, p .is) (sym (first-next ws n));
     sum-small = omega (arith, s .sum-small, p .small);
-    size = g .size;
-    stamped = λ x h d. child x h (g .only x d);
+    countable = g .countable;
+    counted = λ x h. g .each x h ∙ ap (λ (m : ℕ). m + entriesOf ws x n) (s .counted x h) ∙ sym (sum-more (entriesOf ws x) n);
   }
     where
-      g : Stamped (types ws) n (childrenAt ws n) stamps after
+      g : Stamped (types ws) n (childrenAt ws n) counts stamps-after counts-after
       g = rw (te, k) at st
 
-      child : (x : ℕ) → x < types ws → (getD stamps x 0 ≢ 0) ⊎ Stands (childrenAt ws n) x → (y : ℕ) × Child ws y x
-      child x h (inl d) = s .stamped x h d
-      child x h (inr (i, w, e)) = (n, record { parent = omega arith; inside = h; at = i; within = w; is = e })
+  -- a childless type
+  pub types-leaf : {kind e : ℕ} → Widened (kindAt ws n) kind → Widened (firstAt ws n) index → Widened (countAt ws n) 0 → kind ≤ 1 → e ≡ types ws → n < e
+      → TypesSoFar ws (n + 1) index (sum + kind) stamps counts
+  types-leaf {kind} {e} ki fi ci low te l =
+      let r : Read ws n kind index 0 = record { kind-is = ki; first-is = fi; count-is = ci; low = omega arith; right = leaf-right kind low } in
+      let nothing : 8 + 3 * e + index - (8 + 3 * e + index) ≡ 0 = omega arith in
+      let none-taken : [] ≡ take (8 + 3 * e + index - (8 + 3 * e + index)) (drop (8 + 3 * e + index) ws) = rw nothing in
+      let none : [] ≡ childrenAt ws n = read-children r (8 + 3 * e + index) (8 + 3 * e + index) (omega arith) none-taken te refl in
+      let same : index + 0 ≡ index = omega arith in
+      let st : Stamped e n [] counts stamps counts = record {
+        inside = λ i h. absurd (omega arith);
+        differ = λ i j h k. absurd (omega arith);
+        countable = record { stamps-size = s .countable .stamps-size; counts-size = s .countable .counts-size; small = λ x h. omega (arith, s .countable .small x h) };
+        each = λ x h. omega (arith, occurs-none [] x);
+      }
+      in
+      let own : Within 4294967296 (privilegesOf (ruleOf kind index 0)) kind = leaf-privileges kind index low in
+      rw same at (types-more r te l none st (read-privileges r refl own))
 
-  pub types-all : types ws ≤ n → index ≡ entries ws → sum ≤ 4096 → getD ws 7 0 ≡ sum → TypesPass ws stamps
+  pub types-all : types ws ≤ n → types ws ≤ 256 → Totals ws index sum → TypesPass ws counts
   unfolding privileges
-  types-all l total few stated = record {
+  types-all l low totals = record {
     kinds = λ t h. at t h .kind;
-    counts = λ t h. at t h .count;
-    stretches = λ t h. record { first = λ k. at t k .first; total = λ e. rw e (sym all ∙ total) };
-    bounds = λ t h. at t h .bounded;
+    counts-right = λ t h. at t h .count;
+    stretches = λ t h. record { first = λ k. at t k .first; total = λ e. rw e (sym all ∙ totals .listed) };
+    bounds = λ t h. at t h .inside;
     twice = λ t h. at t h .differ;
-    total = λ p h. record { few = omega (arith, whole); stated = stated ∙ whole };
-    stamped = s .stamped;
+    total = λ p h. record { few = omega (arith, whole, totals .few); stated = totals .stated ∙ whole };
+    counted = record { size = s .countable .counts-size; each = λ x h. rw end at (s .counted x (omega arith)) };
   }
     where
       end : n ≡ types ws
@@ -186,21 +230,22 @@ module _ {ws stamps : List ℕ} {n index sum : ℕ} (s : TypesSoFar ws n index s
       whole : sum ≡ firstPrivilege ws (types ws)
       whole = rw (← end) (s .sum-is)
 
--- where every type but 0 has a stamp, the table is accepted
-pub pass-accepted : {ws stamps : List ℕ} → Headed ws → Laid ws → TypesPass ws stamps → ((x : ℕ) → x < types ws → x ≢ 0 → getD stamps x 0 ≢ 0) → Accepted ws
-pass-accepted {ws} {stamps} headed laid p all = record { passes = go }
-  where
-    somebody : (x : ℕ) → x < types ws → Dec (x ≡ 0) → Somebodys ws x
-    somebody x l (yes z) = inl z
-    somebody x l (no d) = inr (p .stamped x l (all x l d))
+-- what the pass hands on
+pub pass-childed : {ws counts : List ℕ} → Laid ws → TypesPass ws counts → Childed ws
+pass-childed laid p = record { tiled = record { laid = laid; kinds = p .kinds; counts = p .counts-right; follow = p .stretches }; inside = p .bounds; differ = p .twice }
 
+-- where the types are ordered too, the table is accepted
+pub pass-accepted : {ws counts : List ℕ} → Headed ws → Laid ws → TypesPass ws counts → Ordered ws → Accepted ws
+pass-accepted {ws} headed laid p o = record { passes = go }
+  where
     go : (check : Check) → Passes ws check
     go Format = λ q l. headed
     go Layout = λ q l. laid
     go Kind = p .kinds
-    go Count = p .counts
+    go Count = p .counts-right
     go Stretch = p .stretches
     go Bounds = p .bounds
     go Twice = p .twice
-    go Orphan = λ x l. somebody x l (ℕ-discrete x 0)
+    go Cycle = o .off-cycle
+    go Unreached = o .reached
     go Total = p .total

@@ -1,34 +1,26 @@
 -- Tests of what specs/ says of a run of words, and the answer of a table check, computed by them. Assumes nothing.
 use Prim.Native.Nat.{ℕ, zero, suc, _+_, _-_, _*_, _≤_, _<_}
-use mathlib.Core.Path.{_≡_, refl, sym}
+use mathlib.Core.Path.{_≡_, refl}
 use mathlib.Core.List.{List}
 use native.Mathlib.Omega.{arith}
 use lib.ListN.{length, getD}
 use Rattle.table.specs.Lowest.{Lowest}
-use Rattle.table.specs.Words.{types, entries, kindAt, countAt, firstAt, running}
-use Rattle.table.specs.Seen.{Stands}
-use Rattle.table.specs.Rule.{ruleAt, kindIn, countOf, childrenAt, OfKind, Child}
+use Rattle.table.specs.Words.{types, entries, root, kindAt, countAt, firstAt, running}
+use Rattle.table.specs.Rule.{ruleAt, kindIn, countOf, childrenAt, OfKind}
 use Rattle.table.specs.Privilege.{privilegesAt, firstPrivilege, privileges, Belongs, Replaceable}
-use Rattle.table.specs.Check.{Headed, Laid, RightCount, Follows, Bounded, Differ, Somebodys, Counted, Holds}
-use Rattle.table.specs.Check.{placesOf, numberOf, Passes, TableAnswer, refused, accepted}
+use Rattle.table.specs.Check.{Headed, Laid, RightCount, Follows, Inside, Differ, Counted, Holds}
+use Rattle.table.specs.Check.{placesOf, numberOf, rankOf, Passes, TableAnswer, refused, accepted}
 use Rattle.table.specs.declared.Found.{Found}
 use Rattle.table.specs.declared.Found.the-variants.{At, Nothing}
 use Rattle.table.specs.declared.Checked.{Checked}
 use Rattle.table.specs.declared.check.Check.{Check}
-use Rattle.table.specs.declared.check.Check.the-variants.{Format, Layout, Kind, Count, Stretch, Bounds, Twice, Orphan, Total}
-use Rattle.table.proofs.Test.{Test, isLess, isAtMost, isEqual, both, either, fails, implies, means, some, every, lowestOf, lowest-of}
-use Rattle.table.proofs.Answers.{checkOf, check-number, number-range, earlier-more}
+use Rattle.table.specs.declared.check.Check.the-variants.{Format, Layout, Kind, Count, Stretch, Bounds, Twice, Cycle, Unreached, Total}
+use Rattle.table.proofs.Test.{Test, isLess, isAtMost, isEqual, both, fails, implies, means, every, lowestOf, lowest-of}
+use Rattle.table.proofs.Answers.{checkOf, check-rank, rank-range, earlier-more}
+use Rattle.table.proofs.BelowTests.{offCycle, reached}
 
--- rules, children and privileges
-abbrev stands : (list : List ℕ) (x : ℕ) → Test (Stands list x)
-stands list x = some (length list) (λ i. isEqual (getD list i 0) x)
-
+-- rules and privileges
 module _ (ws : List ℕ) where
-  abbrev pub child : (y x : ℕ) → Test (Child ws y x)
-  child y x = means (λ h. record { parent = h .0; inside = h .1 .0; at = h .1 .1 .0; within = h .1 .1 .1; is = h .1 .1 .2 })
-      (λ h. (h .parent, (h .inside, (h .at, h .within, h .is))))
-      (both (isLess y (types ws)) (both (isLess x (types ws)) (stands (childrenAt ws y) x)))
-
   abbrev pub ofKind : (t kind : ℕ) → Test (OfKind ws t kind)
   ofKind t kind = means (λ h. record { type = h .0; kind-is = h .1 }) (λ h. (h .type, h .kind-is))
       (both (isLess t (types ws)) (isEqual (kindIn (ruleAt ws t)) kind))
@@ -52,15 +44,15 @@ laid ws = means
     (λ h. record {
       some = h .0;
       few = h .1 .0;
-      root = h .1 .1 .0;
+      root-inside = h .1 .1 .0;
       records = h .1 .1 .1 .0;
       short = h .1 .1 .1 .1 .0;
       list = h .1 .1 .1 .1 .1 .0;
       size = h .1 .1 .1 .1 .1 .1 .0;
       lent = h .1 .1 .1 .1 .1 .1 .1;
     })
-    (λ h. (h .some, (h .few, (h .root, (h .records, (h .short, (h .list, (h .size, h .lent))))))))
-    (both (isAtMost 1 (types ws)) (both (isAtMost (types ws) 256) (both (isEqual (getD ws 3 0) 0) (both (isEqual (getD ws 4 0) 8)
+    (λ h. (h .some, (h .few, (h .root-inside, (h .records, (h .short, (h .list, (h .size, h .lent))))))))
+    (both (isAtMost 1 (types ws)) (both (isAtMost (types ws) 256) (both (isLess (root ws) (types ws)) (both (isEqual (getD ws 4 0) 8)
     (both (isAtMost (entries ws) 1024) (both (isEqual (getD ws 6 0) (8 + 3 * types ws))
     (both (isEqual (getD ws 1 0) (8 + 3 * types ws + entries ws)) (isEqual (length ws) (getD ws 1 0)))))))))
 
@@ -80,15 +72,12 @@ abbrev follows : (ws : List ℕ) (t : ℕ) → Test (Follows ws t)
 follows ws t = means (λ h. record { first = h .0; total = h .1 }) (λ h. (h .first, h .total))
     (both (implies (isLess t (types ws)) (isEqual (firstAt ws t) (running ws t))) (implies (isEqual t (types ws)) (isEqual (running ws t) (entries ws))))
 
-abbrev bounded : (e t : ℕ) (kids : List ℕ) → Test (Bounded e t kids)
-bounded e t kids = every (length kids) (λ i. both (isLess (getD kids i 0) e) (isLess t (getD kids i 0)))
+abbrev inside : (e : ℕ) (kids : List ℕ) → Test (Inside e kids)
+inside e kids = every (length kids) (λ i. isLess (getD kids i 0) e)
 
 abbrev differ : (kids : List ℕ) → Test (Differ kids)
 differ kids = means (λ h i j l m. h j m i l) (λ h j m i l. h i j l m)
     (every (length kids) (λ j. every j (λ i. fails (isEqual (getD kids i 0) (getD kids j 0)))))
-
-abbrev somebodys : (ws : List ℕ) (t : ℕ) → Test (Somebodys ws t)
-somebodys ws t = either (isEqual t 0) (means (λ h. (h .0, h .2)) (λ h. (h .0, h .1 .parent, h .1)) (some (types ws) (λ y. child ws y t)))
 
 abbrev counted : (ws : List ℕ) → Test (Counted ws)
 counted ws = means (λ h. record { few = h .0; stated = h .1 }) (λ h. (h .few, h .stated))
@@ -100,41 +89,42 @@ holds ws Layout p = laid ws
 holds ws Kind t = isAtMost (kindAt ws t) 4
 holds ws Count t = rightCount (kindAt ws t) (countAt ws t)
 holds ws Stretch t = follows ws t
-holds ws Bounds t = bounded (types ws) t (childrenAt ws t)
+holds ws Bounds t = inside (types ws) (childrenAt ws t)
 holds ws Twice t = differ (childrenAt ws t)
-holds ws Orphan t = somebodys ws t
+holds ws Cycle t = offCycle ws t
+holds ws Unreached t = reached ws t
 holds ws Total p = counted ws
 
--- the answer, where the checks below a number pass and `left` more are to be made
+-- the answer, where the checks below a rank pass and `left` more are to be made
 abbrev answerFrom : List ℕ → ℕ → ℕ → Checked
-answerFrom ws zero number = record { number = 0; place = privileges ws }
-answerFrom ws (suc left) number = elim (lowestOf (placesOf ws (checkOf number)) (holds ws (checkOf number))) [
-  | At p ↦ record { number = number; place = p }
-  | Nothing ↦ answerFrom ws left (number + 1)
+answerFrom ws zero rank = record { number = 0; place = privileges ws }
+answerFrom ws (suc left) rank = elim (lowestOf (placesOf ws (checkOf rank)) (holds ws (checkOf rank))) [
+  | At p ↦ record { number = numberOf (checkOf rank); place = p }
+  | Nothing ↦ answerFrom ws left (rank + 1)
 ]
 
 abbrev pub answerOf : List ℕ → Checked
-answerOf ws = answerFrom ws 9 1
+answerOf ws = answerFrom ws 10 1
 
 -- the words have the answer computed
-answer-from : (ws : List ℕ) (left number : ℕ) → 1 ≤ number → number + left ≡ 10 → ((c : Check) → numberOf c < number → Passes ws c)
-    → TableAnswer ws (answerFrom ws left number .number) (answerFrom ws left number .place)
-answer-from ws zero number l e pass = accepted refl refl (record { passes = λ c. pass c (omega (arith, number-range c)) })
-answer-from ws (suc left) number l e pass = go (lowestOf (placesOf ws check) (holds ws check)) (lowest-of (placesOf ws check) (holds ws check))
-    (λ h. answer-from ws left (number + 1) (omega arith) (omega arith) (earlier-more ws number check is pass h))
+answer-from : (ws : List ℕ) (left rank : ℕ) → 1 ≤ rank → rank + left ≡ 11 → ((c : Check) → rankOf c < rank → Passes ws c)
+    → TableAnswer ws (answerFrom ws left rank .number) (answerFrom ws left rank .place)
+answer-from ws zero rank l e pass = accepted refl refl (record { passes = λ c. pass c (omega (arith, rank-range c)) })
+answer-from ws (suc left) rank l e pass = go (lowestOf (placesOf ws check) (holds ws check)) (lowest-of (placesOf ws check) (holds ws check))
+    (λ h. answer-from ws left (rank + 1) (omega arith) (omega arith) (earlier-more ws rank check is pass h))
   where
     check : Check
-    check = checkOf number
+    check = checkOf rank
 
-    is : numberOf check ≡ number
-    is = let same : number - 1 + 1 ≡ number = omega arith in rw same at (check-number (number - 1) (omega arith))
+    is : rankOf check ≡ rank
+    is = let same : rank - 1 + 1 ≡ rank = omega arith in rw same at (check-rank (rank - 1) (omega arith))
 
     go : (found : Found) → Lowest (Holds ws check) (placesOf ws check) found
-        → (Passes ws check → TableAnswer ws (answerFrom ws left (number + 1) .number) (answerFrom ws left (number + 1) .place))
-        → let answer : Checked = elim found [ At p ↦ record { number = number; place = p } | Nothing ↦ answerFrom ws left (number + 1) ] in
+        → (Passes ws check → TableAnswer ws (answerFrom ws left (rank + 1) .number) (answerFrom ws left (rank + 1) .place))
+        → let answer : Checked = elim found [ At p ↦ record { number = numberOf check; place = p } | Nothing ↦ answerFrom ws left (rank + 1) ] in
         TableAnswer ws (answer .number) (answer .place)
-    go (At p) h rest = refused check (sym is) (record { earlier = λ c k. pass c (omega (arith, is)); lowest = h })
+    go (At p) h rest = refused check refl (record { earlier = λ c k. pass c (omega (arith, is)); lowest = h })
     go Nothing h rest = rest h
 
 pub answer-of : (ws : List ℕ) → TableAnswer ws (answerOf ws .number) (answerOf ws .place)
-answer-of ws = answer-from ws 9 1 (omega arith) refl (λ c l. absurd (omega (arith, number-range c)))
+answer-of ws = answer-from ws 10 1 (omega arith) refl (λ c l. absurd (omega (arith, rank-range c)))

@@ -37,6 +37,14 @@ sampleWith v =
 abbrev pub sample : List ℕ
 sample = sampleWith 11
 
+-- the same with its types in alphabetical order: draft, final, held, job (the root), layer, name, range, state. 0 is the text of final, 1 and 2 are the
+-- insert and delete of a layer, 4 is its range, 5 to 10 are the replacements
+abbrev pub alphabetical : List ℕ
+alphabetical =
+    1 ∷ 39 ∷ 8 ∷ 3 ∷ 8 ∷ 7 ∷ 32 ∷ 11
+    ∷ 0 ∷ 0 ∷ 0 ∷ 1 ∷ 0 ∷ 0 ∷ 0 ∷ 0 ∷ 0 ∷ 4 ∷ 1 ∷ 0 ∷ 2 ∷ 3 ∷ 1 ∷ 1 ∷ 0 ∷ 4 ∷ 1 ∷ 0 ∷ 4 ∷ 3 ∷ 3 ∷ 4
+    ∷ 4 ∷ 5 ∷ 6 ∷ 7 ∷ 0 ∷ 2 ∷ 1 ∷ []
+
 -- a lone empty type
 abbrev pub lone : List ℕ
 lone = 1 ∷ 11 ∷ 1 ∷ 0 ∷ 8 ∷ 0 ∷ 11 ∷ 0 ∷ 0 ∷ 0 ∷ 0 ∷ []

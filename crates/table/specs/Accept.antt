@@ -1,33 +1,39 @@
--- What one pass over the types of a table shows, with a stamp for each number below 256: 0 while it is nobody's child, else one more than its
--- latest parent's number. Assumes nothing.
-use Prim.Native.Nat.{ℕ, _<_}
+-- What one pass over the types of a table shows, with a stamp and a count for each number below 256: its latest parent's number, and how many child
+-- entries name it. Assumes nothing.
+use Prim.Native.Nat.{ℕ, _+_, _*_, _≤_, _<_}
 use mathlib.Core.Path.{_≡_}
-use mathlib.Core.Logic.{_≢_, _⊎_}
 use mathlib.Core.List.{List}
 use lib.ListN.{length, getD}
-use Rattle.table.specs.Words.{types}
-use Rattle.table.specs.Seen.{Stands}
-use Rattle.table.specs.Rule.{Child}
-use Rattle.table.specs.Check.{Bounded, Differ, Passes}
+use Rattle.table.specs.Words.{entries}
+use Rattle.table.specs.Counts.{occurs, Counts}
+use Rattle.table.specs.Check.{Inside, Differ, Passes}
 use Rattle.table.specs.declared.check.Check.the-variants.{Kind, Count, Stretch, Bounds, Twice, Total}
 
--- the children of type t are in their bounds and all different, and nothing else got a stamp
-pub record Stamped (e t : ℕ) (kids before after : List ℕ) : Type 0 where
-  pub bounded : Bounded e t kids
+-- room for stamps, and counts that t types of at most 16 children can have made
+pub record Countable (t : ℕ) (stamps counts : List ℕ) : Type 0 where
+  pub stamps-size : length stamps ≡ 256
+  pub counts-size : length counts ≡ 256
+  pub small : (x : ℕ) → x < 256 → getD counts x 0 ≤ 16 * t
+
+-- the children are below e and all different, and each is counted
+pub record Stamped (e t : ℕ) (kids before stamps counts : List ℕ) : Type 0 where
+  pub inside : Inside e kids
   pub differ : Differ kids
-  pub size : length after ≡ 256
-  pub only : (x : ℕ) → getD after x 0 ≢ 0 → (getD before x 0 ≢ 0) ⊎ Stands kids x
+  pub countable : Countable (t + 1) stamps counts
+  pub each : (x : ℕ) → x < 256 → getD counts x 0 ≡ getD before x 0 + occurs kids x (length kids)
 
--- a type with a stamp is somebody's child
-abbrev pub Stamps : List ℕ → List ℕ → Type 0
-Stamps ws stamps = (x : ℕ) → x < types ws → getD stamps x 0 ≢ 0 → (y : ℕ) × Child ws y x
+-- as many children as word 5 says, and as many privileges as word 7 says, which are at most 4,096
+pub record Totals (ws : List ℕ) (children privileges : ℕ) : Type 0 where
+  pub listed : children ≡ entries ws
+  pub few : privileges ≤ 4096
+  pub stated : getD ws 7 0 ≡ privileges
 
--- checks 3 to 7 and 9 pass, and only children have a stamp
-pub record TypesPass (ws stamps : List ℕ) : Type 0 where
+-- checks 3 to 7 and 9 pass, and each type's entries are counted
+pub record TypesPass (ws counts : List ℕ) : Type 0 where
   pub kinds : Passes ws Kind
-  pub counts : Passes ws Count
+  pub counts-right : Passes ws Count
   pub stretches : Passes ws Stretch
   pub bounds : Passes ws Bounds
   pub twice : Passes ws Twice
   pub total : Passes ws Total
-  pub stamped : Stamps ws stamps
+  pub counted : Counts ws counts

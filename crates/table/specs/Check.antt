@@ -1,17 +1,17 @@
--- What a run of words must hold to be a table, as nine checks made in the order of their numbers, and what checking it answers
--- (document 01, "The schema table" and "Numbers of the answers and their order"). Assumes nothing.
+-- What a run of words must hold to be a table, as ten checks made in the order of their ranks, and what checking it answers
+-- (document 01, "The schema table" and "Numbers of the answers and their order"; document 02, order 2). Assumes nothing.
 use Prim.Native.Nat.{ℕ, _+_, _*_, _≤_, _<_}
 use mathlib.Core.Path.{_≡_}
-use mathlib.Core.Logic.{_≢_, _⊎_}
+use mathlib.Core.Logic.{_≢_}
 use mathlib.Core.List.{List}
 use lib.ListN.{length, getD}
 use Rattle.table.specs.Lowest.{LowestAt}
-use Rattle.table.specs.Words.{types, entries, kindAt, countAt, firstAt, childList, running}
-use Rattle.table.specs.Seen.{Seen}
-use Rattle.table.specs.Rule.{childrenAt, Child}
+use Rattle.table.specs.Words.{types, entries, root, kindAt, countAt, firstAt, running}
+use Rattle.table.specs.Rule.{childrenAt}
+use Rattle.table.specs.Below.{OffCycle, FromRoot}
 use Rattle.table.specs.Privilege.{privileges}
 use Rattle.table.specs.declared.check.Check.{Check}
-use Rattle.table.specs.declared.check.Check.the-variants.{Format, Layout, Kind, Count, Stretch, Bounds, Twice, Orphan, Total}
+use Rattle.table.specs.declared.check.Check.the-variants.{Format, Layout, Kind, Count, Stretch, Bounds, Twice, Cycle, Unreached, Total}
 
 -- 1: at least 8 words, and word 0 is 1
 pub record Headed (ws : List ℕ) : Type 0 where
@@ -22,7 +22,7 @@ pub record Headed (ws : List ℕ) : Type 0 where
 pub record Laid (ws : List ℕ) : Type 0 where
   pub some : 1 ≤ types ws
   pub few : types ws ≤ 256
-  pub root : getD ws 3 0 ≡ 0
+  pub root-inside : root ws < types ws
   pub records : getD ws 4 0 ≡ 8
   pub short : entries ws ≤ 1024
   pub list : getD ws 6 0 ≡ 8 + 3 * types ws
@@ -42,17 +42,13 @@ pub record Follows (ws : List ℕ) (t : ℕ) : Type 0 where
   pub first : t < types ws → firstAt ws t ≡ running ws t
   pub total : t ≡ types ws → running ws t ≡ entries ws
 
--- 6: a child's number is below E and greater than its parent's
-abbrev pub Bounded : ℕ → ℕ → List ℕ → Type 0
-Bounded e t kids = (i : ℕ) → i < length kids → (getD kids i 0 < e) × (t < getD kids i 0)
+-- 6: a child's number is below E
+abbrev pub Inside : ℕ → List ℕ → Type 0
+Inside e kids = (i : ℕ) → i < length kids → getD kids i 0 < e
 
 -- 7: children are all different
 abbrev pub Differ : List ℕ → Type 0
 Differ kids = (i j : ℕ) → i < j → j < length kids → getD kids i 0 ≢ getD kids j 0
-
--- 8: every type but 0 is somebody's child
-abbrev pub Somebodys : List ℕ → ℕ → Type 0
-Somebodys ws t = (t ≡ 0) ⊎ ((y : ℕ) × Child ws y t)
 
 -- 9: V is at most 4,096 and is word 7
 pub record Counted (ws : List ℕ) : Type 0 where
@@ -66,9 +62,10 @@ Holds ws Layout p = Laid ws
 Holds ws Kind t = kindAt ws t ≤ 4
 Holds ws Count t = RightCount (kindAt ws t) (countAt ws t)
 Holds ws Stretch t = Follows ws t
-Holds ws Bounds t = Bounded (types ws) t (childrenAt ws t)
+Holds ws Bounds t = Inside (types ws) (childrenAt ws t)
 Holds ws Twice t = Differ (childrenAt ws t)
-Holds ws Orphan t = Somebodys ws t
+Holds ws Cycle t = OffCycle ws t
+Holds ws Unreached t = FromRoot ws t
 Holds ws Total p = Counted ws
 
 -- its places in a table of e types: the types; place E too for the total of check 5; place 0 alone where none is named
@@ -80,7 +77,8 @@ placesIn e Count = e
 placesIn e Stretch = e + 1
 placesIn e Bounds = e
 placesIn e Twice = e
-placesIn e Orphan = e
+placesIn e Cycle = e
+placesIn e Unreached = e
 placesIn e Total = 1
 
 abbrev pub placesOf : List ℕ → Check → ℕ
@@ -95,22 +93,29 @@ numberOf Count = 4
 numberOf Stretch = 5
 numberOf Bounds = 6
 numberOf Twice = 7
-numberOf Orphan = 8
+numberOf Cycle = 19
+numberOf Unreached = 8
 numberOf Total = 9
+
+-- its place in the order of the checks: 19 stands between 7 and 8
+abbrev pub rankOf : Check → ℕ
+rankOf Format = 1
+rankOf Layout = 2
+rankOf Kind = 3
+rankOf Count = 4
+rankOf Stretch = 5
+rankOf Bounds = 6
+rankOf Twice = 7
+rankOf Cycle = 8
+rankOf Unreached = 9
+rankOf Total = 10
 
 abbrev pub Passes : List ℕ → Check → Type 0
 Passes ws check = (p : ℕ) → p < placesOf ws check → Holds ws check p
 
--- the checks of lower numbers pass
+-- the checks before it pass
 abbrev pub Earlier : List ℕ → Check → Type 0
-Earlier ws check = (c : Check) → numberOf c < numberOf check → Passes ws c
-
--- what is known where a check looks at place p, with the numbers seen in the child list
-pub record Asked (ws seen : List ℕ) (check : Check) (p : ℕ) : Type 0 where
-  pub earlier : Earlier ws check
-  pub seen-right : Seen (childList ws) seen
-  pub within : p < placesOf ws check
-  pub before : (q : ℕ) → q < p → Holds ws check q
+Earlier ws check = (c : Check) → rankOf c < rankOf check → Passes ws c
 
 -- a check is the first that fails, and place is the lowest at which it does
 pub record Refused (ws : List ℕ) (check : Check) (place : ℕ) : Type 0 where

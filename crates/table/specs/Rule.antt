@@ -58,10 +58,11 @@ childrenIn ws rule = take (countIn rule) (drop (8 + 3 * types ws + firstIn rule)
 unfoldable pub childrenAt : List ℕ → ℕ → List ℕ
 childrenAt ws t = childrenIn ws (ruleAt ws t)
 
--- its record and its children stand in the run
+-- its record and its children stand in the run, as many as the record says
 pub record HasChildren (ws : List ℕ) (t : ℕ) : Type 0 where
   pub described : HasRecord ws t
-  pub listed : 8 + 3 * types ws + firstIn (ruleAt ws t) + countIn (ruleAt ws t) ≤ length ws
+  pub counted : countIn (ruleAt ws t) ≡ countAt ws t
+  pub listed : 8 + 3 * types ws + firstAt ws t + countAt ws t ≤ length ws
 
 -- how many children type t has, and the one at position i
 unfoldable pub countOf : List ℕ → ℕ → ℕ

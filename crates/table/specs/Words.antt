@@ -19,6 +19,10 @@ Widened x r = Within 65536 x r
 abbrev pub types : List ℕ → ℕ
 types ws = getD ws 2 0
 
+-- the root type
+abbrev pub root : List ℕ → ℕ
+root ws = getD ws 3 0
+
 -- C, the number of child entries
 abbrev pub entries : List ℕ → ℕ
 entries ws = getD ws 5 0

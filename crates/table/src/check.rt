@@ -1,13 +1,15 @@
-// The nine checks: what each asks at a place, and the lowest place at which it fails. Contracts cite specs/Check.
+// The ten checks: what each asks at a place, and the lowest place at which it fails. Contracts cite specs/Check.
 ghost use mathlib.Core.Path.{_≡_};
 ghost use Prim.Native.Nat.{ℕ, _≤_, _<_};
-ghost use lib.ListN.{getD};
+ghost use lib.ListN.{getD, replicate};
 ghost use mathlib.Core.Logic.{_≢_};
 ghost use Rattle.table.specs.Lowest.{Lowest, Tells};
-ghost use Rattle.table.specs.Seen.{Seen};
-ghost use Rattle.table.specs.Words.{types, running, childList};
-ghost use Rattle.table.specs.Check.{Headed, Laid, RightCount, Follows, Bounded, Differ, Counted, Holds, placesIn, placesOf, numberOf, Earlier, Asked};
+ghost use Rattle.table.specs.Words.{types, running};
+ghost use Rattle.table.specs.Check.{Headed, Laid, RightCount, Follows, Inside, Differ, Counted, Holds, placesIn, placesOf, numberOf, rankOf, Earlier};
+ghost use Rattle.table.specs.Flags.{MarkedFor, Asked};
 use super::Found;
+use super::below::is_on_cycle;
+use super::below::mark_below;
 use super::privilege::privileges;
 use super::rule::children;
 use super::words::entries;
@@ -24,16 +26,17 @@ pub enum Check {
     Stretch,
     Bounds,
     Twice,
-    Orphan,
+    Cycle,
+    Unreached,
     Total,
 }
 
-// The check of this number.
-pub fn numbered(number: u8) -> Check
-    requires { ⌜ (1 ≤ number) × (number ≤ 9) ⌝ }
-    ensures { λ r. ⌜ numberOf r ≡ number ⌝ }
+// The check of this rank.
+pub fn ranked(rank: u8) -> Check
+    requires { ⌜ (1 ≤ rank) × (rank ≤ 10) ⌝ }
+    ensures { λ r. ⌜ rankOf r ≡ rank ⌝ }
 {
-    match number {
+    match rank {
         1 => Check::Format,
         2 => Check::Layout,
         3 => Check::Kind,
@@ -41,8 +44,27 @@ pub fn numbered(number: u8) -> Check
         5 => Check::Stretch,
         6 => Check::Bounds,
         7 => Check::Twice,
-        8 => Check::Orphan,
+        8 => Check::Cycle,
+        9 => Check::Unreached,
         _ => Check::Total,
+    }
+}
+
+// Its number.
+pub fn number_of(check: Check) -> u8
+    ensures { λ r. ⌜ r ≡ numberOf check ⌝ }
+{
+    match check {
+        Check::Format => 1,
+        Check::Layout => 2,
+        Check::Kind => 3,
+        Check::Count => 4,
+        Check::Stretch => 5,
+        Check::Bounds => 6,
+        Check::Twice => 7,
+        Check::Cycle => 19,
+        Check::Unreached => 8,
+        Check::Total => 9,
     }
 }
 
@@ -59,7 +81,8 @@ fn places_in(check: Check, e: usize) -> usize
         Check::Stretch => e + 1,
         Check::Bounds => e,
         Check::Twice => e,
-        Check::Orphan => e,
+        Check::Cycle => e,
+        Check::Unreached => e,
         Check::Total => 1,
     }
 }
@@ -85,7 +108,7 @@ pub fn is_laid(words: &[u16]) -> bool
     if 256 < e {
         return false;
     }
-    if word_at(words, 3) != 0 {
+    if e <= word_at(words, 3) {
         return false;
     }
     if word_at(words, 4) != 8 {
@@ -143,17 +166,13 @@ fn follows(words: &[u16], t: usize) -> bool
     entries(words) == index
 }
 
-// Is each child below e and above its parent t?
-fn bounded(kids: &[u16], e: usize, t: usize) -> bool
-    ensures { λ r. ⌜ Tells (Bounded e t (now (kids .entry))) r ⌝ }
+// Is each child below e?
+fn inside(kids: &[u16], e: usize) -> bool
+    ensures { λ r. ⌜ Tells (Inside e (now (kids .entry))) r ⌝ }
 {
     let mut i = 0;
     while i < kids.len() {
-        let child = word_at(kids, i);
-        if e <= child {
-            return false;
-        }
-        if child <= t {
+        if e <= word_at(kids, i) {
             return false;
         }
         i += 1;
@@ -189,31 +208,6 @@ fn differ(kids: &[u16]) -> bool
     true
 }
 
-// A byte for each number below 256: 1 where it stands in the list.
-fn seen_in(list: &[u16]) -> [u8; 256]
-    ensures { λ r. ⌜ Seen (now (list .entry)) r ⌝ }
-{
-    let mut seen = [0u8; 256];
-    let mut i = 0;
-    while i < list.len() {
-        let child = word_at(list, i);
-        if child < 256 {
-            seen[child] = 1;
-        }
-        i += 1;
-    }
-    seen
-}
-
-// Which numbers are somebody's child.
-pub fn children_seen(words: &[u16]) -> [u8; 256]
-    ensures { λ r. ⌜ Seen (childList (now (words .entry))) r ⌝ }
-{
-    let a = 8 + 3 * types(words);
-    let b = a + entries(words);
-    seen_in(stretch(words, a, b))
-}
-
 fn is_counted(words: &[u16]) -> bool
     requires { ⌜ Laid (now words) ⌝ }
     ensures { λ r. ⌜ Tells (Counted (now (words .entry))) r ⌝ }
@@ -225,9 +219,19 @@ fn is_counted(words: &[u16]) -> bool
     word_at(words, 7) == v
 }
 
+// Marks the types that are reached from the root, for the check that asks it.
+fn mark_reached(words: &[u16], check: Check, reached: &mut [u8; 256])
+    requires { ⌜ Earlier (now words) check × (now reached ≡ replicate 256 0) ⌝ }
+    ensures { λ _. ⌜ MarkedFor (now (words .entry)) check (now (reached .exit)) ⌝ }
+{
+    if let Check::Unreached = check {
+        mark_below(words, stretch(words, 3, 4), reached);
+    }
+}
+
 // Does the check hold at place p, where it holds at those before?
-fn holds_at(words: &[u16], seen: &[u8; 256], check: Check, p: usize) -> bool
-    requires { ⌜ Asked (now words) (now seen) check p ⌝ }
+fn holds_at(words: &[u16], reached: &[u8; 256], check: Check, p: usize) -> bool
+    requires { ⌜ Asked (now words) (now reached) check p ⌝ }
     ensures { λ r. ⌜ Tells (Holds (now (words .entry)) check p) r ⌝ }
 {
     match check {
@@ -236,27 +240,25 @@ fn holds_at(words: &[u16], seen: &[u8; 256], check: Check, p: usize) -> bool
         Check::Kind => record_word(words, p, 0) <= 4,
         Check::Count => right_count(record_word(words, p, 0), record_word(words, p, 1)),
         Check::Stretch => follows(words, p),
-        Check::Bounds => bounded(children(words, p), types(words), p),
+        Check::Bounds => inside(children(words, p), types(words)),
         Check::Twice => differ(children(words, p)),
-        Check::Orphan => {
-            if p == 0 {
-                return true;
-            }
-            seen[p] == 1
-        }
+        Check::Cycle => !is_on_cycle(words, p),
+        Check::Unreached => reached[p] == 1,
         Check::Total => is_counted(words),
     }
 }
 
-// The lowest place at which the check fails, where those of lower numbers pass.
-pub fn lowest_failing(words: &[u16], seen: &[u8; 256], check: Check) -> Found
-    requires { ⌜ Earlier (now words) check × Seen (childList (now words)) (now seen) ⌝ }
+// The lowest place at which the check fails, where those before it pass.
+pub fn lowest_failing(words: &[u16], check: Check) -> Found
+    requires { ⌜ Earlier (now words) check ⌝ }
     ensures { λ r. ⌜ Lowest (Holds (now (words .entry)) check) (placesOf (now (words .entry)) check) r ⌝ }
 {
+    let mut reached = [0u8; 256];
+    mark_reached(words, check, &mut reached);
     let n = places_in(check, types(words));
     let mut p = 0;
     while p < n {
-        if !holds_at(words, seen, check, p) {
+        if !holds_at(words, &reached, check, p) {
             return Found::At(p);
         }
         p += 1;

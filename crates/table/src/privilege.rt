@@ -8,8 +8,8 @@ ghost use Rattle.table.specs.Privilege.{privilegesOf, othersOf, choicesO
 ghost use Rattle.table.specs.Check.{Laid, Accepted};
 ghost use Rattle.table.specs.Lowest.{Tells};
 use super::rule::Rule;
-use super::rule::count_in;
 use super::rule::rule_at;
+use super::words::record_word;
 use super::words::types;
 
 // How many privileges of a rule are no replacements.
@@ -98,7 +98,7 @@ pub fn numbers_at(words: &[u16], x: usize, first: usize) -> Numbering
 {
     Numbering {
         first: first,
-        count: count_in(rule_at(words, x)),
+        count: record_word(words, x, 1),
     }
 }
 

@@ -1,7 +1,7 @@
 // A type's rule and its children. Contracts cite specs/Rule.
 ghost use mathlib.Core.Path.{_≡_};
 ghost use Rattle.table.specs.Words.{HasRecord};
-ghost use Rattle.table.specs.Rule.{ruleOf, ruleAt, firstIn, countIn, ReadAs, childrenAt, HasChildren};
+ghost use Rattle.table.specs.Rule.{ruleOf, ruleAt, ReadAs, childrenAt, HasChildren};
 use super::words::record_word;
 use super::words::types;
 
@@ -39,38 +39,12 @@ pub fn rule_at(words: &[u16], t: usize) -> Rule
     )
 }
 
-fn first_in(rule: Rule) -> usize
-    ensures { λ r. ⌜ r ≡ firstIn rule ⌝ }
-{
-    match rule {
-        Rule::Empty => 0,
-        Rule::Text => 0,
-        Rule::Sequence { first, count: _ } => first,
-        Rule::Choice { first, count: _ } => first,
-        Rule::Star { first, count: _ } => first,
-    }
-}
-
-// How many children a rule has.
-pub fn count_in(rule: Rule) -> usize
-    ensures { λ r. ⌜ r ≡ countIn rule ⌝ }
-{
-    match rule {
-        Rule::Empty => 0,
-        Rule::Text => 0,
-        Rule::Sequence { first: _, count } => count,
-        Rule::Choice { first: _, count } => count,
-        Rule::Star { first: _, count } => count,
-    }
-}
-
 // The children of type t, as a part of the words.
 pub fn children(words: &[u16], t: usize) -> &[u16]
     requires { ⌜ HasChildren (now words) t ⌝ }
     ensures { λ r. ⌜ now r ≡ childrenAt (now (words .entry)) t ⌝ }
 {
-    let rule = rule_at(words, t);
-    let a = 8 + 3 * types(words) + first_in(rule);
-    let b = a + count_in(rule);
+    let a = 8 + 3 * types(words) + record_word(words, t, 2);
+    let b = a + record_word(words, t, 1);
     &words[a..b]
 }

@@ -13,7 +13,8 @@ use Rattle.table.proofs.Lowest.{told-yes}
 use Rattle.table.proofs.Privileges.{replace-in}
 use Rattle.verdict.specs.Marks.{Allowed}
 use Rattle.verdict.specs.Below.{ForbiddenBelow}
-use Rattle.verdict.specs.Reached.{last, next, Reached, marked, Square}
+use Rattle.table.specs.Plus.{last, next}
+use Rattle.verdict.specs.Reached.{Reached, marked, Square}
 use Rattle.verdict.specs.Breaches.{conditionNumber, InsertDeleteBreach, ChainBreach, CycleBreach, BreachOf, IsBreach, key, Lex, BreachAt, none, first}
 use Rattle.verdict.specs.Visits.{Broken, FirstAt, CycleAt}
 use Rattle.verdict.specs.Visits as visits

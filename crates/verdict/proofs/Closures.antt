@@ -7,7 +7,7 @@ use native.Mathlib.Nat.{eq-or-lt-of-le, suc-inj}
 use native.Mathlib.Omega.{arith}
 use Rattle.table.specs.Lowest.{Tells}
 use Rattle.table.proofs.Lowest.{tells-as}
-use Rattle.verdict.specs.Reached.{Plus, last, next}
+use Rattle.table.specs.Plus.{Plus, last, next}
 
 pub plus-trans : {R : ℕ → ℕ → Type 0} {i k j : ℕ} → Plus R i k → Plus R k j → Plus R i j
 plus-trans {k = k} (last r) q = next k r q

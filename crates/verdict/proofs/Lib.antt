@@ -8,8 +8,9 @@ pub mod SquareLaws
 pub mod Bits
 pub mod Packing
 pub mod Forced
+pub mod Carried
+pub mod Renumbered
 pub mod Judged
-pub mod Walks
 pub mod Boxes
 pub mod PolicyTests
 pub mod PolicySamples

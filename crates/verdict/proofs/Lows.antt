@@ -10,16 +10,13 @@ use lib.Seq.{getD-set-same, getD-set-other, getD-take, getD-drop, length-take-le
 use Rattle.table.specs.Words.{types}
 use Rattle.table.specs.Rule.{childrenAt, childAt, Child}
 use Rattle.table.specs.Privilege.{firstPrivilege, privilegesAt, Belongs}
+use Rattle.table.specs.Below.{Below, here, down}
 use Rattle.table.specs.Order.{BottomUp}
 use Rattle.table.proofs.Lists.{le-or-lt}
 use Rattle.table.proofs.Privileges.{belongs-below}
 use Rattle.table.proofs.Facts.{facts, child-at}
 use Rattle.verdict.specs.Marks.{Policy}
-use Rattle.verdict.specs.Below.{Below, here, down, ForbiddenBelow, ForbiddenOwn, Low, Range, Least, OwnLows}
-
-pub below-trans : {ws : List ℕ} {x y z : ℕ} → Below ws x y → Below ws y z → Below ws x z
-below-trans b here = b
-below-trans b (down w c d) = down w c (below-trans b d)
+use Rattle.verdict.specs.Below.{ForbiddenBelow, ForbiddenOwn, Low, Range, Least, OwnLows}
 
 -- none, and the first
 pub low-none : {P : ℕ → Type 0} → ((q : ℕ) → ¬ P q) → Low P 65535

@@ -1,7 +1,7 @@
 -- Tests of what specs/ says of a table and its marks, and the verdict, computed by them: the first key of a breach within the bounds of all
 -- such keys. They hold of every run of words and of marks. Assumes nothing.
 use Prim.Native.Nat.{ℕ, zero, suc, _<_}
-use mathlib.Core.Path.{_≡_, refl, ap, subst, subst⁻¹}
+use mathlib.Core.Path.{_≡_, refl, ap, subst⁻¹}
 use mathlib.Core.Logic.{_⊎_, inl, inr}
 use mathlib.Core.Bool.{Bool, false}
 use mathlib.Core.List.{List, [], _∷_}
@@ -10,16 +10,16 @@ use native.Mathlib.Omega.{arith}
 use lib.Dec.{T}
 use lib.ListN.{length, getD}
 use Rattle.table.specs.Words.{types}
-use Rattle.table.specs.Rule.{countOf, childAt, Child}
+use Rattle.table.specs.Rule.{countOf, childAt}
 use Rattle.table.specs.Privilege.{privileges, insertOf, deleteOf, replaceOf, replace}
 use Rattle.table.proofs.Privileges.{belongs-below, edit-below}
 use Rattle.table.specs.Check.{Accepted}
-use Rattle.table.proofs.Test.{Test, isAtMost, isEqual, both, either, fails, means, some, every}
+use Rattle.table.proofs.Test.{Test, isAtMost, isEqual, both, fails, means, some, every}
 use Rattle.table.proofs.Answers.{accepted-answer}
-use Rattle.table.proofs.TableTests.{child, ofKind, replaceable, belongs, answerOf, answer-of}
+use Rattle.table.proofs.TableTests.{ofKind, replaceable, belongs, answerOf, answer-of}
 use Rattle.verdict.specs.Marks.{Allowed, Forbidden, Fit, Policy}
-use Rattle.verdict.specs.Below.{Below, here, down, PrivilegeBelow, ForbiddenBelow}
-use Rattle.verdict.specs.Reached.{Plus, last, next, Step, Reached}
+use Rattle.verdict.specs.Below.{PrivilegeBelow, ForbiddenBelow}
+use Rattle.verdict.specs.Reached.{Step, Reached}
 use Rattle.verdict.specs.Breaches.{conditionNumber, noBreach, InsertDeleteBreach, ChainBreach, CycleBreach, BreachOf, IsBreach}
 use Rattle.verdict.specs.Breaches.{key, Verdict, clean, broken}
 use Rattle.verdict.specs.declared.Breach.{Breach}
@@ -29,27 +29,15 @@ use Rattle.verdict.proofs.Firsts.{conditionOf, condition-of, breach-cas
 use Rattle.verdict.proofs.Breached.{reached-from}
 use Rattle.verdict.proofs.Forced.{reached-replaceable}
 use Rattle.verdict.proofs.Policies.{table-accepted}
-use Rattle.verdict.proofs.Walks.{closure}
+use Rattle.table.proofs.Walks.{closure}
+use Rattle.table.proofs.BelowTests.{below}
 use Rattle.verdict.proofs.Boxes.{Box, end, more, Inside, firstIn, Finds, first-in}
 
--- below: the same type, or reached by one or more steps to a child
-pub below-out : {ws : List ℕ} {x y : ℕ} → (x ≡ y) ⊎ Plus (Child ws) y x → Below ws x y
-below-out {ws} {x} (inl e) = subst (Below ws x) e here
-below-out {x = x} (inr (last c)) = down x c here
-below-out (inr (next z c p)) = down z c (below-out (inr p))
-
-pub below-into : {ws : List ℕ} {x y : ℕ} → Below ws x y → (x ≡ y) ⊎ Plus (Child ws) y x
-below-into here = inl refl
-below-into {ws} {x} {y} (down z c b) = elim (below-into b) [ inl e ↦ inr (last (subst⁻¹ (Child ws y) e c)) | inr p ↦ inr (next z c p) ]
-
 module _ (ws : List ℕ) where
-  abbrev pub below : (x y : ℕ) → Test (Below ws x y)
-  below x y = means below-out below-into (either (isEqual x y) (closure (types ws) (λ a b c. c .inside) (child ws) y x))
-
   abbrev pub privilegeBelow : (p y : ℕ) → Test (PrivilegeBelow ws p y)
   privilegeBelow p y = means (λ h. record { type = h .0; belongs = h .2 .0; below = h .2 .1 })
       (λ h. (h .type, h .belongs .type, (h .belongs, h .below)))
-      (some (types ws) (λ x. both (belongs ws p x) (below x y)))
+      (some (types ws) (λ x. both (belongs ws p x) (below ws x y)))
 
 -- marks, and a table with its marks
 abbrev pub allowed : (marks : List ℕ) (p : ℕ) → Test (Allowed marks p)

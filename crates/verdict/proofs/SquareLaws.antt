@@ -20,7 +20,8 @@ use Rattle.table.specs.declared.privilege.Numbering.{Numbering}
 use Rattle.table.proofs.Lowest.{told-yes, tells-as, tells-by}
 use Rattle.table.proofs.Privileges.{edit-below, replaceable-in, in-replaceable, replace-in}
 use Rattle.verdict.specs.Marks.{Allowed, Policy}
-use Rattle.verdict.specs.Reached.{Plus, Step, marked, Marked, Square}
+use Rattle.table.specs.Plus.{Plus}
+use Rattle.verdict.specs.Reached.{Step, marked, Marked, Square}
 use Rattle.verdict.specs.Squares.{StepIn, ForbiddenIn, Flags, on, off, Room, Readable, Joined}
 use Rattle.verdict.specs.Visits.{Broken}
 use Rattle.verdict.proofs.Closures.{Via, via-more, via-all}

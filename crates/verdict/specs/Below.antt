@@ -6,16 +6,11 @@ use mathlib.Core.Logic.{_⊎_}
 use mathlib.Core.List.{List}
 use lib.ListN.{length, getD}
 use Rattle.table.specs.Words.{types}
-use Rattle.table.specs.Rule.{Child}
+use Rattle.table.specs.Below.{Below}
 use Rattle.table.specs.Privilege.{Belongs}
 use Rattle.table.specs.declared.Found.{Found}
 use Rattle.table.specs.declared.Found.the-variants.{At, Nothing}
 use Rattle.verdict.specs.Marks.{Forbidden}
-
--- x is below y
-pub data Below (ws : List ℕ) : ℕ → ℕ → Type 0 where
-  here : {x : ℕ} → Below ws x x
-  down : {x y : ℕ} (z : ℕ) → Child ws y z → Below ws x z → Below ws x y
 
 -- privilege p is below y
 pub record PrivilegeBelow (ws : List ℕ) (p y : ℕ) : Type 0 where

@@ -6,6 +6,7 @@ pub mod Squares
 pub mod Packed
 pub mod Conditions
 pub mod Forces
+pub mod Carried
 pub mod Breaches
 pub mod Visits
 pub mod Answers

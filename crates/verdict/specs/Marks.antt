@@ -7,6 +7,7 @@ use mathlib.Core.List.{List}
 use lib.ListN.{length, getD}
 use Rattle.table.specs.Lowest.{LowestAt}
 use Rattle.table.specs.Privilege.{privileges}
+use Rattle.table.specs.Order.{BottomUp}
 use Rattle.table.specs.Check.{Accepted, TableAnswer}
 
 abbrev pub Allowed : List ℕ → ℕ → Type 0
@@ -38,7 +39,7 @@ pub record Policy (ws marks : List ℕ) : Type 0 where
   pub accepted : Accepted ws
   pub fit : Fit (privileges ws) marks
 
--- why there is none: 1 to 9 for the table, 10 and 11 for the marks
+-- why there is none: 1 to 9 and 19 for the table, 10 and 11 for the marks
 pub data NoPolicy (ws marks : List ℕ) (number place : ℕ) : Type 0 where
   table : number ≢ 0 → TableAnswer ws number place → NoPolicy ws marks number place
   marks : Accepted ws → Unfit 10 (privileges ws) marks number place → NoPolicy ws marks number place
@@ -47,3 +48,8 @@ pub data NoPolicy (ws marks : List ℕ) (number place : ℕ) : Type 0 where
 pub data PolicyAnswer (ws marks : List ℕ) (number place : ℕ) : Type 0 where
   refused : NoPolicy ws marks number place → PolicyAnswer ws marks number place
   fits : Policy ws marks → number ≡ 0 → place ≡ privileges ws → PolicyAnswer ws marks number place
+
+-- and where there is a policy, the order of the types
+pub record OrderedPolicy (ws marks order : List ℕ) (number place : ℕ) : Type 0 where
+  pub answer : PolicyAnswer ws marks number place
+  pub up : number ≡ 0 → BottomUp ws order

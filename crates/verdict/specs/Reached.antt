@@ -7,12 +7,8 @@ use mathlib.Core.List.{List}
 use lib.Dec.{eqb}
 use lib.ListN.{length, getD}
 use Rattle.table.specs.Lowest.{Tells}
+use Rattle.table.specs.Plus.{Plus}
 use Rattle.table.specs.Privilege.{replaceOf, Replaceable}
-
--- one or more steps of R lead from i to j
-pub data Plus (R : ℕ → ℕ → Type 0) : ℕ → ℕ → Type 0 where
-  last : {i j : ℕ} → R i j → Plus R i j
-  next : {i j : ℕ} (k : ℕ) → R i k → Plus R k j → Plus R i j
 
 -- at choice x the child at i may be replaced by the kind at j
 pub record Step (ws : List ℕ) (S : ℕ → Type 0) (x i j : ℕ) : Type 0 where

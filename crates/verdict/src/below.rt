@@ -4,11 +4,11 @@ ghost use mathlib.Core.Path.{_≡_};
 ghost use Prim.Native.Nat.{ℕ, _≤_, _<_};
 ghost use lib.ListN.{length, getD};
 ghost use Rattle.table.specs.Words.{types};
+ghost use Rattle.table.specs.Order.{BottomUp};
 ghost use Rattle.verdict.specs.Marks.{Policy};
 ghost use Rattle.verdict.specs.Below.{Low, OwnLows, Lows, WorstBelow, Least, Range};
 use super::marks::none_above;
 use table::Found;
-use table::order::bottom_up;
 use table::privilege::privileges_at;
 use table::rule::children;
 use table::words::types;
@@ -65,13 +65,11 @@ fn least_of(kids: &[u16], low: &[u16; 256], own: u16) -> u16
     least
 }
 
-// Writes for each type the lowest forbidden privilege below it, or 65,535.
-pub fn forbidden_lows(words: &[u16], marks: &[u8], low: &mut [u16; 256])
-    requires { ⌜ Policy (now words) (now marks) × (length (now low) ≡ 256) ⌝ }
+// Writes for each type the lowest forbidden privilege below it, or 65,535. The order holds each type after its children.
+pub fn forbidden_lows(words: &[u16], marks: &[u8], order: &[u8; 256], low: &mut [u16; 256])
+    requires { ⌜ Policy (now words) (now marks) × BottomUp (now words) (now order) × (length (now low) ≡ 256) ⌝ }
     ensures { λ _. ⌜ Lows (now (words .entry)) (now (marks .entry)) (now (low .exit)) ⌝ }
 {
-    let mut order = [0u8; 256];
-    bottom_up(words, &mut order);
     let e = types(words);
     own_lows(words, marks, low);
     let mut k = 0;

@@ -5,6 +5,7 @@ ghost use Rattle.table.specs.Words.{types};
 ghost use Rattle.table.specs.Rule.{IsChoice, IsStar, countOf};
 ghost use Rattle.table.specs.Privilege.{firstPrivilege, NumberedAs};
 ghost use Rattle.table.specs.Lowest.{Tells};
+ghost use Rattle.table.specs.Order.{BottomUp};
 ghost use Rattle.verdict.specs.Marks.{Allowed, Policy};
 ghost use Rattle.verdict.specs.Below.{Lows};
 ghost use Rattle.verdict.specs.Reached.{Reached, Square};
@@ -223,13 +224,13 @@ fn breach_at(words: &[u16], marks: &[u8], low: &[u16; 256], x: usize, first: usi
     }
 }
 
-// The first breach of a policy, or five zeros where it is clean.
-pub fn first_breach(words: &[u16], marks: &[u8]) -> Breach
-    requires { ⌜ Policy (now words) (now marks) ⌝ }
+// The first breach of a policy, or five zeros where it is clean. The order holds each type after its children.
+pub fn first_breach(words: &[u16], marks: &[u8], order: &[u8; 256]) -> Breach
+    requires { ⌜ Policy (now words) (now marks) × BottomUp (now words) (now order) ⌝ }
     ensures { λ r. ⌜ Verdict (now (words .entry)) (now (marks .entry)) r ⌝ }
 {
     let mut low = [65535u16; 256];
-    forbidden_lows(words, marks, &mut low);
+    forbidden_lows(words, marks, order, &mut low);
     let e = types(words);
     let mut first = 0;
     let mut x = 0;

@@ -60,15 +60,16 @@ pub fn refused(number: u8, place: usize) -> Answer
     }
 }
 
-// Judges a policy, whatever is lent: refuses with 1 to 11, or answers 0 with the first breach, five zeros where there is none.
+// Judges a policy, whatever is lent: refuses with 1 to 11 or 19, or answers 0 with the first breach, five zeros where there is none.
 pub fn judge_policy(words: &[u16], marks: &[u8]) -> Answer
     ensures { λ r. ⌜ JudgeAnswer (now (words .entry)) (now (marks .entry)) r ⌝ }
 {
-    let checked = marks::check_policy(words, marks);
+    let mut order = [0u8; 256];
+    let checked = marks::check_policy(words, marks, &mut order);
     if checked.number != 0 {
         return refused(checked.number, checked.place);
     }
-    let first = breaches::first_breach(words, marks);
+    let first = breaches::first_breach(words, marks, &order);
     Answer {
         number: 0,
         place: 0,

@@ -3,10 +3,10 @@ ghost use mathlib.Core.Path.{_≡_};
 ghost use Prim.Native.Nat.{ℕ, _≤_, _<_};
 ghost use lib.ListN.{length, getD};
 ghost use Rattle.table.specs.Lowest.{Lowest, Tells};
-ghost use Rattle.verdict.specs.Marks.{Legal, MarksAnswer, PolicyAnswer};
+ghost use Rattle.verdict.specs.Marks.{Legal, MarksAnswer, OrderedPolicy};
 use table::Checked;
 use table::Found;
-use table::check_table;
+use table::check_ordered;
 
 // The mark of privilege p; past the end stands 0.
 pub fn mark_at(marks: &[u8], p: usize) -> u8
@@ -69,11 +69,12 @@ pub fn check_marks(marks: &[u8], v: usize, first: u8) -> Checked
     }
 }
 
-// Checks a table, and then marks for it: 0 and V, or the first of 1 to 11 with its place.
-pub fn check_policy(words: &[u16], marks: &[u8]) -> Checked
-    ensures { λ r. ⌜ PolicyAnswer (now (words .entry)) (now (marks .entry)) (r .number) (r .place) ⌝ }
+// Checks a table, and then marks for it: 0 and V, or the first of 1 to 11 and 19 with its place. With 0 the order holds the types, each after its children.
+pub fn check_policy(words: &[u16], marks: &[u8], order: &mut [u8; 256]) -> Checked
+    requires { ⌜ length (now order) ≡ 256 ⌝ }
+    ensures { λ r. ⌜ OrderedPolicy (now (words .entry)) (now (marks .entry)) (now (order .exit)) (r .number) (r .place) ⌝ }
 {
-    let table = check_table(words);
+    let table = check_ordered(words, order);
     if table.number != 0 {
         return table;
     }

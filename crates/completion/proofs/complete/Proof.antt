@@ -5,6 +5,7 @@ use native.Mathlib.Omega.{arith}
 use borrow.Author.Needs.{needs}
 use denote.Ref.{now}
 use lib.ListN.{length}
+use Rattle.table.specs.Order.{BottomUp}
 use Rattle.table.specs.Privilege.{privileges}
 use Rattle.verdict.specs.Marks.{Policy}
 use Rattle.verdict.proofs.Policies.{policy-refused, policy-fits}
@@ -15,15 +16,19 @@ use Rattle.completion.proofs.complete.Statement.{statement}
 use Rattle.completion.proofs.complete.Tie as tie
 
 -- past the first test the marks are a policy, and the place is V
-fits : (c : tie.Else1) → let a = c .before .before .before .before .before .before .args in Policy (now (a .words)) (now (a .marks)) × (c .before .before .check-policy .result .place ≡ privileges (now (a .words)))
-fits c = policy-fits (c .if1 .left) (c .before .before .check-policy .ensures)
+fits : (c : tie.Else1) → let a = c .before .before .before .before .before .before .before .args in Policy (now (a .words)) (now (a .marks)) × (c .before .before .check-policy .result .place ≡ privileges (now (a .words)))
+fits c = policy-fits (c .if1 .left) (c .before .before .check-policy .ensures .answer)
 
--- past the second there is room
-room : (c : tie.Else2) → let a = c .before .before .before .before .before .before .before .before .args in privileges (now (a .words)) ≤ length (now (a .out))
+-- and the order is there
+ordered : (c : tie.Else1) → BottomUp (now (c .before .before .before .before .before .before .before .args .words)) (c .before .before .check-policy .last .1 .1 .0)
+ordered c = c .before .before .check-policy .ensures .up (c .if1 .left)
+
+-- past the second test there is room
+room : (c : tie.Else2) → let a = c .before .before .before .before .before .before .before .before .before .args in privileges (now (a .words)) ≤ length (now (a .out))
 room c = omega (arith, c .if2 .left, fits (c .before .before) .1)
 
 check-policy-requires : tie.Need-check-policy-requires
-check-policy-requires c κs = search needs
+check-policy-requires c κs = refl
 
 refused-requires : tie.Need-refused-requires
 refused-requires c κs = search needs
@@ -31,7 +36,7 @@ refused-requires c κs = search needs
 returns : tie.Need-returns
 returns c =
     let checked = c .before .before .before in
-    refused (policy-refused (c .before .if1 .taken) (checked .check-policy .ensures)) (c .refused .ensures) refl
+    refused (policy-refused (c .before .if1 .taken) (checked .check-policy .ensures .answer)) (c .refused .ensures) refl
 
 refused-requires-2 : tie.Need-refused-requires-2
 refused-requires-2 c κs = search needs
@@ -42,15 +47,15 @@ returns-2 c =
     short (fit .0) (omega (arith, c .before .if2 .taken, fit .1)) (c .refused2 .ensures) refl
 
 first-breach-requires : tie.Need-first-breach-requires
-first-breach-requires c κs = fits (c .before .before) .0
+first-breach-requires c κs = let first = c .before .before .before in (fits first .0, ordered first)
 
 enum-told : tie.Need-enum-told
 enum-told c = search needs
 
 complete-all-requires : tie.Need-complete-all-requires
 complete-all-requires c κs =
-    let asked = c .before .before .before .before in
-    (fits (asked .before .before) .0, room asked)
+    let asked = c .before .before .before .before .before .before in
+    (fits (asked .before .before) .0, ordered (asked .before .before), room asked)
 
 refused-requires-3 : tie.Need-refused-requires-3
 refused-requires-3 c κs = search needs
@@ -61,16 +66,16 @@ same-length c = search needs
 returns-3 : tie.Need-returns-3
 returns-3 c =
     let filled = c .before .before .before in
-    let told = filled .before .before in
+    let told = filled .before .before .before in
     let found = told .before .before in
-    filled-given (room (found .before)) (filled .complete-all .ensures) (fits (found .before .before .before) .0)
+    filled-given (room (found .before .before)) (filled .complete-all .ensures) (fits (found .before .before .before .before) .0)
     (verdict-clean _ _ (found .first-breach .ensures) (told .enum-told .given .1)) (c .refused3 .ensures)
 
 returns-4 : tie.Need-returns-4
 returns-4 c =
     let found = c .before in
     let first = verdict-broken _ _ (found .first-breach .ensures) (λ e. no-tag (rw e at (c .match .keys2))) in
-    none (fits (found .before .before .before) .0) (room (found .before)) (broken-none first) first refl refl
+    none (fits (found .before .before .before .before) .0) (room (found .before .before)) (broken-none first) first refl refl
 
 pub complete-spec : {M : Type 1} → statement M
 complete-spec =

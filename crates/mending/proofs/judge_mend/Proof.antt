@@ -5,6 +5,7 @@ use Rattle.verdict.proofs.Firsts.{verdict-clean, verdict-broken, no-tag}
 use Rattle.verdict.proofs.Policies.{policy-refused, policy-fits, marks-refused, marks-fit}
 use Rattle.verdict.specs.Answers.{done}
 use Rattle.verdict.specs.Marks.{Fit, Policy}
+use Rattle.table.specs.Order.{BottomUp}
 use Rattle.table.specs.Privilege.{privileges}
 use Rattle.table.proofs.Facts.{facts}
 use lib.ListN.{length}
@@ -17,35 +18,39 @@ use Rattle.mending.proofs.judge_mend.Statement.{statement}
 use Rattle.mending.proofs.judge_mend.Tie as tie
 
 -- past the first test there is a policy, past the second the proposed marks fit, past the third each is kept
-policy : (c : tie.Else1) → Policy (now (c .before .before .before .before .before .before .args .words)) (now (c .before .before .before .before .before .before .args .marks)) × (c .before .before .check-policy .result .place ≡ privileges (now (c .before .before .before .before .before .before .args .words)))
-policy c = policy-fits (c .if1 .left) (c .before .before .check-policy .ensures)
+policy : (c : tie.Else1) → Policy (now (c .before .before .before .before .before .before .before .args .words)) (now (c .before .before .before .before .before .before .before .args .marks)) × (c .before .before .check-policy .result .place ≡ privileges (now (c .before .before .before .before .before .before .before .args .words)))
+policy c = policy-fits (c .if1 .left) (c .before .before .check-policy .ensures .answer)
 
-fit : (c : tie.Else2) → Fit (privileges (now (c .before .before .before .before .before .before .before .before .before .args .words))) (now (c .before .before .before .before .before .before .before .before .before .args .proposed))
+-- and the order is there
+ordered : (c : tie.Else1) → BottomUp (now (c .before .before .before .before .before .before .before .args .words)) (c .before .before .check-policy .last .1 .1 .0)
+ordered c = c .before .before .check-policy .ensures .up (c .if1 .left)
+
+fit : (c : tie.Else2) → Fit (privileges (now (c .before .before .before .before .before .before .before .before .before .before .args .words))) (now (c .before .before .before .before .before .before .before .before .before .before .args .proposed))
 fit c = rw (policy (c .before .before .before) .1) at (marks-fit (omega arith) (c .if2 .left) (c .before .before .check-marks .ensures))
 
 -- there are so many of both
 sizes : (c : tie.Else2)
-    → let checked = c .before .before .before in let start = checked .before .before .before .before .before .before in
+    → let checked = c .before .before .before in let start = checked .before .before .before .before .before .before .before in
     let v = checked .before .before .check-policy .result .place in
     (v ≤ length (now (start .args .marks))) × (v ≤ length (now (start .args .proposed)))
 sizes c =
     let p = policy (c .before .before .before) in
     (omega (arith, p .1, p .0 .fit .size), omega (arith, p .1, fit c .size))
 
-all-kept : (c : tie.After-enum-told) → AllKept (now (c .before .before .before .before .before .before .before .before .before .before .before .before .args .words)) (now (c .before .before .before .before .before .before .before .before .before .before .before .before .args .marks)) (now (c .before .before .before .before .before .before .before .before .before .before .before .before .args .proposed))
+all-kept : (c : tie.After-enum-told) → AllKept (now (c .before .before .before .before .before .before .before .before .before .before .before .before .before .args .words)) (now (c .before .before .before .before .before .before .before .before .before .before .before .before .before .args .marks)) (now (c .before .before .before .before .before .before .before .before .before .before .before .before .before .args .proposed))
 all-kept c = rw (policy (c .before .before .before .before .before .before) .1) at (rw (c .enum-told .given .1) at (c .before .before .lowest-change .ensures))
 
-proposed-policy : (c : tie.After-enum-told) → Policy (now (c .before .before .before .before .before .before .before .before .before .before .before .before .args .words)) (now (c .before .before .before .before .before .before .before .before .before .before .before .before .args .proposed))
+proposed-policy : (c : tie.After-enum-told) → Policy (now (c .before .before .before .before .before .before .before .before .before .before .before .before .before .args .words)) (now (c .before .before .before .before .before .before .before .before .before .before .before .before .before .args .proposed))
 proposed-policy c = record { accepted = policy (c .before .before .before .before .before .before) .0 .accepted; fit = fit (c .before .before .before) }
 
 check-policy-requires : tie.Need-check-policy-requires
-check-policy-requires c κs = search needs
+check-policy-requires c κs = refl
 
 refused-requires : tie.Need-refused-requires
 refused-requires c κs = search needs
 
 returns : tie.Need-returns
-returns c = refused (policy-refused (c .before .if1 .taken) (c .before .before .before .check-policy .ensures)) (c .refused .ensures)
+returns c = refused (policy-refused (c .before .if1 .taken) (c .before .before .before .check-policy .ensures .answer)) (c .refused .ensures)
 
 check-marks-requires : tie.Need-check-marks-requires
 check-marks-requires c κs = search needs
@@ -77,14 +82,14 @@ enum-told : tie.Need-enum-told
 enum-told c = search needs
 
 first-breach-requires : tie.Need-first-breach-requires
-first-breach-requires c κs = proposed-policy c
+first-breach-requires c κs = (proposed-policy (c .before), ordered (c .before .before .before .before .before .before .before))
 
 enum-told-2 : tie.Need-enum-told-2
 enum-told-2 c = search needs
 
 count-changes-requires : tie.Need-count-changes-requires
 count-changes-requires c κs =
-    let at = c .before .before .before .before .before .before in
+    let at = c .before .before .before .before .before .before .before in
     let p = policy (at .before .before .before) in
     (sizes at .0, sizes at .1, omega (arith, p .1, facts (p .0 .accepted) .privileges-few))
 
@@ -94,15 +99,15 @@ done-with-requires c κs = search needs
 returns-4 : tie.Need-returns-4
 returns-4 c =
     let first = c .before .before .before .before in
-    let kept = first .before in
-    let start = kept .before .before .before .before .before .before .before .before .before .before .before .before in
+    let kept = first .before .before in
+    let start = kept .before .before .before .before .before .before .before .before .before .before .before .before .before in
     let p = policy (kept .before .before .before .before .before .before) in
     accepted (p .0) (fit (kept .before .before .before)) (all-kept kept) (verdict-clean _ _ (first .first-breach .ensures) (c .before .before .enum-told2 .given .1))
     (c .done-with .ensures ∙ ap done (c .before .count-changes .ensures ∙ ap (changes (now (start .args .marks)) (now (start .args .proposed))) (p .1)))
 
 returns-5 : tie.Need-returns-5
 returns-5 c =
-    let kept = c .before .before in
+    let kept = c .before .before .before in
     let p = policy (kept .before .before .before .before .before .before) in
     broken (p .0) (fit (kept .before .before .before)) (all-kept kept) (verdict-broken _ _ (c .before .first-breach .ensures) (λ e. no-tag (rw e at (c .match2 .keys2)))) refl
 

@@ -2,6 +2,7 @@
 use Rattle.mending.specs.Answers.{refused, short, mended}
 use Rattle.verdict.proofs.Policies.{policy-refused, policy-fits}
 use Rattle.verdict.specs.Marks.{Policy}
+use Rattle.table.specs.Order.{BottomUp}
 use Rattle.table.specs.Privilege.{privileges}
 use lib.Seq.{length-take-le}
 use lib.ListN.{drop}
@@ -16,17 +17,20 @@ use Rattle.mending.proofs.mend.Statement.{statement}
 use Rattle.mending.proofs.mend.Tie as tie
 
 -- past the first test there is a policy, and the place is V
-policy : (c : tie.Else1) → Policy (now (c .before .before .before .before .before .before .args .words)) (now (c .before .before .before .before .before .before .args .marks)) × (c .before .before .check-policy .result .place ≡ privileges (now (c .before .before .before .before .before .before .args .words)))
-policy c = policy-fits (c .if1 .left) (c .before .before .check-policy .ensures)
+policy : (c : tie.Else1) → Policy (now (c .before .before .before .before .before .before .before .args .words)) (now (c .before .before .before .before .before .before .before .args .marks)) × (c .before .before .check-policy .result .place ≡ privileges (now (c .before .before .before .before .before .before .before .args .words)))
+policy c = policy-fits (c .if1 .left) (c .before .before .check-policy .ensures .answer)
 
 check-policy-requires : tie.Need-check-policy-requires
-check-policy-requires c κs = search needs
+check-policy-requires c κs = refl
+
+ordered : (c : tie.Else1) → BottomUp (now (c .before .before .before .before .before .before .before .args .words)) (c .before .before .check-policy .last .1 .1 .0)
+ordered c = c .before .before .check-policy .ensures .up (c .if1 .left)
 
 refused-requires : tie.Need-refused-requires
 refused-requires c κs = search needs
 
 returns : tie.Need-returns
-returns c = refused (policy-refused (c .before .if1 .taken) (c .before .before .before .check-policy .ensures)) (c .refused .ensures) refl
+returns c = refused (policy-refused (c .before .if1 .taken) (c .before .before .before .check-policy .ensures .answer)) (c .refused .ensures) refl
 
 refused-requires-2 : tie.Need-refused-requires-2
 refused-requires-2 c κs = search needs
@@ -47,9 +51,10 @@ part-mend-copy-end c = search needs
 
 mend-copy-requires : tie.Need-mend-copy-requires
 mend-copy-requires c κs =
-    let p = policy (c .before .before) in
-    let out = c .before .before .before .before .before .before .before .before .args .out .now in
-    (p .0, rw sub-zero (length-take-le _ out (c .before .if2 .left) ∙ p .1 ∙ sym (p .0 .fit .size)))
+    let first = c .before .before .before in
+    let p = policy first in
+    let out = first .before .before .before .before .before .before .before .args .out .now in
+    (p .0, ordered first, rw sub-zero (length-take-le _ out (c .before .before .if2 .left) ∙ p .1 ∙ sym (p .0 .fit .size)))
 
 done-with-requires : tie.Need-done-with-requires
 done-with-requires c κs = search needs
@@ -60,11 +65,11 @@ same-length c = search needs
 returns-3 : tie.Need-returns-3
 returns-3 c =
     let copied = c .before .before .before in
-    let left = copied .before .before in
+    let left = copied .before .before .before in
     let p = policy (left .before) in
-    let start = left .before .before .before .before .before .before .before in
+    let start = left .before .before .before .before .before .before .before .before in
     mended (p .0) (omega (arith, p .1, left .if2 .left)) (copied .mend-copy .ensures) (c .done-with .ensures)
-    (ap (λ (k : ℕ). copied .mend-copy .last .1 .1 .0 ++ drop k (now (start .args .out))) (sub-zero _ ∙ p .1))
+    (ap (λ (k : ℕ). copied .mend-copy .last .1 .1 .1 .0 ++ drop k (now (start .args .out))) (sub-zero _ ∙ p .1))
 
 pub mend-spec : {M : Type 1} → statement M
 mend-spec =

@@ -7,7 +7,7 @@ use Rattle.verdict.proofs.judge_policy.Statement.{statement}
 use Rattle.verdict.proofs.judge_policy.Tie as tie
 
 check-policy-requires : tie.Need-check-policy-requires
-check-policy-requires c κs = search needs
+check-policy-requires c κs = refl
 
 refused-requires : tie.Need-refused-requires
 refused-requires c κs = search needs
@@ -15,15 +15,15 @@ refused-requires c κs = search needs
 returns : tie.Need-returns
 returns c =
     let checked = c .before .before .before in
-    refused (policy-refused (c .before .if1 .taken) (checked .check-policy .ensures)) (c .refused .ensures)
+    refused (policy-refused (c .before .if1 .taken) (checked .check-policy .ensures .answer)) (c .refused .ensures)
 
 first-breach-requires : tie.Need-first-breach-requires
-first-breach-requires c κs = policy-fits (c .if1 .left) (c .before .before .check-policy .ensures) .0
+first-breach-requires c κs = let told = c .before .before .before .check-policy .ensures in (policy-fits (c .before .if1 .left) (told .answer) .0, told .up (c .before .if1 .left))
 
 returns-2 : tie.Need-returns-2
 returns-2 c =
-    let checked = c .before .before .before in
-    judged (policy-fits (c .before .if1 .left) (checked .check-policy .ensures) .0) (c .first-breach .ensures) refl
+    let checked = c .before .before .before .before in
+    judged (policy-fits (c .before .before .if1 .left) (checked .check-policy .ensures .answer) .0) (c .first-breach .ensures) refl
 
 pub judge-policy-spec : {M : Type 1} → statement M
 judge-policy-spec =

@@ -1,14 +1,12 @@
 -- The pass has done the types from place k of the order on, and so the parents of the type that it comes to. Assumes nothing.
 use Prim.Native.Nat.{ℕ, _+_, _-_, _≤_, _<_}
 use mathlib.Core.Path.{_≡_, refl}
-use mathlib.Core.List.{List}
 use native.Mathlib.Omega.{arith}
 use borrow.Author.Needs.{needs}
 use denote.Ref.{now}
 use lib.ListN.{getD}
 use Rattle.table.specs.Words.{types}
 use Rattle.table.specs.Privilege.{firstPrivilege}
-use Rattle.table.specs.Order.{BottomUp}
 use Rattle.table.proofs.Facts.{facts, has-children}
 use Rattle.table.proofs.Privileges.{first-within}
 use Rattle.completion.proofs.Descent.{Descended, descent-start, descent-told, descent-more, descent-all}
@@ -16,29 +14,15 @@ use Rattle.completion.proofs.pass.complete_all.Statement.{statement}
 use Rattle.completion.proofs.pass.complete_all.Tie as tie
 
 abbrev Inv-loop : tie.InvT-loop
-Inv-loop words marks out₀ order firsts opened₀ k₀ out opened k = (k ≤ types words) × Descended words marks order k opened out₀ out
+Inv-loop words marks order out₀ firsts opened₀ k₀ out opened k = (k ≤ types words) × Descended words marks order k opened out₀ out
 
 abbrev μ-loop : tie.MeasureT-loop
-μ-loop words marks out₀ order firsts opened₀ k₀ out opened k = k
-
--- the order in which each type comes after its children
-module _ (c : tie.After-bottom-up Inv-loop μ-loop) where
-  abbrev start : tie.Start Inv-loop μ-loop
-  start = c .before .before .before .before .before
-
-  abbrev order : List ℕ
-  order = c .bottom-up .last .1 .0
-
-  order-up : BottomUp (now (start .args .words)) order
-  order-up = c .bottom-up .ensures (start .pre .0 .accepted)
+μ-loop words marks order out₀ firsts opened₀ k₀ out opened k = k
 
 -- the loop comes to the place before k, which holds a type
 module _ (c : tie.In-loop Inv-loop μ-loop) where
-  abbrev ordered : tie.After-bottom-up Inv-loop μ-loop
-  ordered = c .before .before .before .before .before
-
   abbrev begin : tie.Start Inv-loop μ-loop
-  begin = start ordered
+  begin = c .before .before .before .before .before .before .before .before
 
   place : c .before .loop .k - 1 < types (now (begin .args .words))
   place = omega (arith, c .loop-test .taken, c .before .loop .inv .0)
@@ -47,10 +31,10 @@ module _ (c : tie.In-loop Inv-loop μ-loop) where
   few = facts (begin .pre .0 .accepted) .few
 
   abbrev x : ℕ
-  x = getD (order ordered) (c .before .loop .k - 1) 0
+  x = getD (now (begin .args .order)) (c .before .loop .k - 1) 0
 
   type : x < types (now (begin .args .words))
-  type = order-up ordered .inside (c .before .loop .k - 1) place
+  type = begin .pre .1 .inside (c .before .loop .k - 1) place
 
   first-is : getD (c .before .before .before .first-privileges .last .1 .0) x 0 ≡ firstPrivilege (now (begin .args .words)) x
   first-is = c .before .before .before .first-privileges .ensures x type
@@ -59,45 +43,42 @@ module _ (c : tie.In-loop Inv-loop μ-loop) where
   first-low = omega (arith, first-within (now (begin .args .words)) x (omega (arith, type)), facts (begin .pre .0 .accepted) .privileges-few)
 
   -- the types after that place are done
-  stands : Descended (now (begin .args .words)) (now (begin .args .marks)) (order ordered) (c .before .loop .k - 1 + 1) (c .before .loop .opened) (now (begin .args .out)) (c .before .loop .out)
+  stands : Descended (now (begin .args .words)) (now (begin .args .marks)) (now (begin .args .order)) (c .before .loop .k - 1 + 1) (c .before .loop .opened) (now (begin .args .out)) (c .before .loop .out)
   stands = let e : c .before .loop .k ≡ c .before .loop .k - 1 + 1 = omega (arith, c .loop-test .taken) in rw e at (c .before .loop .inv .1)
 
-bottom-up-requires : tie.Need-bottom-up-requires Inv-loop μ-loop
-bottom-up-requires c κs = refl
-
 first-privileges-requires : tie.Need-first-privileges-requires Inv-loop μ-loop
-first-privileges-requires c κs = (start (c .before) .pre .0 .accepted, refl)
+first-privileges-requires c κs = (c .before .before .before .before .pre .0 .accepted, refl)
 
 types-requires : tie.Need-types-requires Inv-loop μ-loop
 types-requires c κs = search needs
 
 loop-holds : tie.Need-loop-holds Inv-loop μ-loop
-loop-holds c = (search needs, rw (c .types .ensures .is) (descent-start (start (c .before .before .before) .pre .0 .accepted)))
+loop-holds c = (search needs, rw (c .types .ensures .is) (descent-start (c .before .before .before .before .before .before .pre .0 .accepted)))
 
 sub-k : tie.Need-sub-k Inv-loop μ-loop
 sub-k c = search needs
 
-array-read-x : tie.Need-array-read-x Inv-loop μ-loop
-array-read-x c = omega (arith, place c, few c)
+element-copy-out-x : tie.Need-element-copy-out-x Inv-loop μ-loop
+element-copy-out-x c = omega (arith, place c, few c)
 
 cast-x : tie.Need-cast-x Inv-loop μ-loop
-cast-x c = omega (arith, type c, few c)
+cast-x c = omega (arith, type (c .before), few (c .before))
 
 mul-complete-type : tie.Need-mul-complete-type Inv-loop μ-loop
-mul-complete-type c = omega (arith, type c, few c)
+mul-complete-type c = omega (arith, type (c .before), few (c .before))
 
 array-read-complete-type : tie.Need-array-read-complete-type Inv-loop μ-loop
-array-read-complete-type c = omega (arith, type c, few c)
+array-read-complete-type c = omega (arith, type (c .before), few (c .before))
 
 cast-complete-type : tie.Need-cast-complete-type Inv-loop μ-loop
-cast-complete-type c = omega (arith, first-is c, first-low c)
+cast-complete-type c = omega (arith, first-is (c .before), first-low (c .before))
 
 children-requires : tie.Need-children-requires Inv-loop μ-loop
-children-requires c κs = has-children (begin c .pre .0 .accepted) (type c)
+children-requires c κs = has-children (begin (c .before) .pre .0 .accepted) (type (c .before))
 
 complete-type-requires : tie.Need-complete-type-requires Inv-loop μ-loop
 complete-type-requires c κs =
-    let loop = c .before .before .before in
+    let loop = c .before .before .before .before in
     let pre = begin loop .pre in
     record {
       policy = pre .0;
@@ -105,8 +86,8 @@ complete-type-requires c κs =
       first-is = first-is loop;
       kids-are = c .before .before .children .ensures;
       size = loop .before .loop .inv .1 .flags;
-      told = descent-told (pre .0 .accepted) (order-up (ordered loop)) (stands loop) (place loop);
-      room = omega (arith, pre .1, loop .before .loop .inv .1 .size);
+      told = descent-told (pre .0 .accepted) (pre .1) (stands loop) (place loop);
+      room = omega (arith, pre .2, loop .before .loop .inv .1 .size);
     }
 
 loop-less : tie.Need-loop-less Inv-loop μ-loop
@@ -115,8 +96,8 @@ loop-less c = search needs
 loop-again : tie.Need-loop-again Inv-loop μ-loop
 loop-again c =
     let done = c .before .before in
-    let loop = done .before .before .before .before in
-    (search needs, descent-more (begin loop .pre .0 .accepted) (order-up (ordered loop)) (stands loop) (place loop) (done .complete-type .ensures))
+    let loop = done .before .before .before .before .before in
+    (search needs, descent-more (begin loop .pre .0 .accepted) (begin loop .pre .1) (stands loop) (place loop) (done .complete-type .ensures))
 
 same-length : tie.Need-same-length Inv-loop μ-loop
 same-length c = c .before .loop .inv .1 .size
@@ -125,7 +106,7 @@ returns : tie.Need-returns Inv-loop μ-loop
 returns c =
     let at = c .before in
     let end : at .loop .k ≡ 0 = omega (arith, c .loop-test .left) in
-    descent-all (order-up (at .before .before .before .before)) (rw end at (at .loop .inv .1))
+    descent-all (at .before .before .before .before .before .before .before .pre .1) (rw end at (at .loop .inv .1))
 
 pub complete-all-spec : {M : Type 1} → statement M
 complete-all-spec =
@@ -133,12 +114,11 @@ complete-all-spec =
     (tie.spec
     Inv-loop
     μ-loop
-    bottom-up-requires
     first-privileges-requires
     types-requires
     loop-holds
     sub-k
-    array-read-x
+    element-copy-out-x
     cast-x
     mul-complete-type
     array-read-complete-type

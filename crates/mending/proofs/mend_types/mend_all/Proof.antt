@@ -15,10 +15,10 @@ use Rattle.mending.proofs.mend_types.mend_all.Statement.{statement}
 use Rattle.mending.proofs.mend_types.mend_all.Tie as tie
 
 abbrev Inv-loop : tie.InvT-loop
-Inv-loop words m₀ low e count₀ first₀ x₀ m count first x = (x ≤ e) × (first ≡ firstPrivilege words x) × Mending words low x m₀ m count
+Inv-loop words order m₀ low e count₀ first₀ x₀ m count first x = (x ≤ e) × (first ≡ firstPrivilege words x) × Mending words low x m₀ m count
 
 abbrev μ-loop : tie.MeasureT-loop
-μ-loop words m₀ low e count₀ first₀ x₀ m count first x = e - x
+μ-loop words order m₀ low e count₀ first₀ x₀ m count first x = e - x
 
 -- the loop stands at a type, and goes on from its mend
 is-type : (c : tie.In-loop Inv-loop μ-loop) → c .before .loop .x < types (now (c .before .before .before .before .before .before .before .before .args .words))
@@ -26,19 +26,19 @@ is-type c = omega (arith, c .loop-test .taken, c .before .before .types .ensures
 
 onward : (c : tie.After-mend-type Inv-loop μ-loop)
     → let at = c .before .before .before .before in let begin = at .before .before .before .before .before .before .before in
-    Mending (now (begin .args .words)) (at .before .before .forbidden-lows .last .1 .1 .0) (at .loop .x + 1) (now (begin .args .m)) (c .mend-type .last .1 .0) (at .loop .count + c .mend-type .result)
+    Mending (now (begin .args .words)) (at .before .before .forbidden-lows .last .1 .1 .1 .0) (at .loop .x + 1) (now (begin .args .m)) (c .mend-type .last .1 .0) (at .loop .count + c .mend-type .result)
 onward c = mending-on (c .before .before .before .before .loop .inv .2) (c .mend-type .ensures)
 
 forbidden-lows-requires : tie.Need-forbidden-lows-requires Inv-loop μ-loop
-forbidden-lows-requires c κs = (c .before .before .before .before .pre, refl)
+forbidden-lows-requires c κs = let pre = c .before .before .before .before .pre in (pre .0, pre .1, refl)
 
 types-requires : tie.Need-types-requires Inv-loop μ-loop
 types-requires c κs = search needs
 
 loop-holds : tie.Need-loop-holds Inv-loop μ-loop
 loop-holds c =
-    let pol = c .before .before .before .before .before .before .pre in
-    (search needs, sym (first-start _), record { follows = start; policy = pol; spoilt = lows-spoilt pol (c .before .forbidden-lows .last .1 .1 .0) (c .before .forbidden-lows .ensures); clean = clean-start _ _ })
+    let pol = c .before .before .before .before .before .before .pre .0 in
+    (search needs, sym (first-start _), record { follows = start; policy = pol; spoilt = lows-spoilt pol (c .before .forbidden-lows .last .1 .1 .1 .0) (c .before .forbidden-lows .ensures); clean = clean-start _ _ })
 
 mend-type-requires : tie.Need-mend-type-requires Inv-loop μ-loop
 mend-type-requires c κs =
@@ -52,13 +52,13 @@ add-count c = omega (arith, mending-few (onward (c .before .before)))
 privileges-at-requires : tie.Need-privileges-at-requires Inv-loop μ-loop
 privileges-at-requires c κs =
     let loop = c .before .before .before .before .before in
-    has-record (loop .before .before .before .before .before .before .before .before .pre .accepted) (is-type loop)
+    has-record (loop .before .before .before .before .before .before .before .before .pre .0 .accepted) (is-type loop)
 
 add-first : tie.Need-add-first Inv-loop μ-loop
 add-first c =
     let loop = c .before .before .before .before .before .before in
     let begin = loop .before .before .before .before .before .before .before .before in
-    omega (arith, c .privileges-at .ensures .small, first-within (now (begin .args .words)) (loop .before .loop .x) (omega (arith, is-type loop)), facts (begin .pre .accepted) .privileges-few)
+    omega (arith, c .privileges-at .ensures .small, first-within (now (begin .args .words)) (loop .before .loop .x) (omega (arith, is-type loop)), facts (begin .pre .0 .accepted) .privileges-few)
 
 add-x : tie.Need-add-x Inv-loop μ-loop
 add-x c =
@@ -80,7 +80,7 @@ loop-again c =
     )
 
 same-length : tie.Need-same-length Inv-loop μ-loop
-same-length c = omega (arith, c .before .loop .inv .2 .policy .fit .size, c .before .before .before .before .before .before .before .before .pre .fit .size)
+same-length c = omega (arith, c .before .loop .inv .2 .policy .fit .size, c .before .before .before .before .before .before .before .before .pre .0 .fit .size)
 
 returns : tie.Need-returns Inv-loop μ-loop
 returns c =

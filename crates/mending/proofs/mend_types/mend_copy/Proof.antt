@@ -7,7 +7,9 @@ copy-requires : tie.Need-copy-requires
 copy-requires c κs = search needs
 
 mend-all-requires : tie.Need-mend-all-requires
-mend-all-requires c κs = rw (c .before .before .before .copy .ensures) (c .before .before .before .before .before .before .before .before .pre .0)
+mend-all-requires c κs =
+    let start = c .before .before .before .before .before .before .before .before in
+    (rw (c .before .before .before .copy .ensures) (start .pre .0), start .pre .1)
 
 same-length : tie.Need-same-length
 same-length c = search needs

@@ -1,45 +1,72 @@
 -- The loop keeps what the types passed are, and the sums over them. Assumes nothing.
 use borrow.Author.Needs.{needs}
-use borrow.Author.Tests.{not-false, eqb-true}
+use borrow.Author.Tests.{not-false}
+use Rattle.table.specs.Words.{Widened, firstAt}
 use Rattle.table.proofs.Lowest.{told-yes}
 use Rattle.table.proofs.Rules.{count-small}
-use Rattle.table.proofs.Stamps.{TypesSoFar, Read, read-children, read-privileges, types-start, types-more, types-all}
+use Rattle.table.proofs.Stamps.{TypesSoFar, Read, read-children, read-few, read-privileges, types-start, types-leaf, types-more, types-all}
 use native.Mathlib.Omega.{arith}
 use denote.Ref.{now}
-use mathlib.Core.Path.{refl, sym, _∙_}
+use mathlib.Core.Path.{_≡_, refl, sym}
 use mathlib.Core.Bool.{true≢false}
-use Prim.Native.Nat.{ℕ, _-_, _<_}
+use Prim.Native.Nat.{ℕ, _+_, _*_, _-_, _<_}
 use Rattle.table.proofs.accept.types_pass.Statement.{statement}
 use Rattle.table.proofs.accept.types_pass.Tie as tie
 
 abbrev Inv-loop : tie.InvT-loop
-Inv-loop words stamps₀ e list index₀ sum₀ t₀ stamps index sum t = TypesSoFar words t index sum stamps
+Inv-loop words stamps₀ counts₀ e list index₀ sum₀ t₀ stamps counts index sum t = TypesSoFar words t index sum stamps counts
 
 abbrev μ-loop : tie.MeasureT-loop
-μ-loop words stamps₀ e list index₀ sum₀ t₀ stamps index sum t = e - t
+μ-loop words stamps₀ counts₀ e list index₀ sum₀ t₀ stamps counts index sum t = e - t
 
--- the record that the loop has read
-module _ (c : tie.Else3 Inv-loop μ-loop) where
+-- the loop has read the record of a type whose first child is the running index
+module _ (c : tie.Else1 Inv-loop μ-loop) where
   abbrev at : tie.At-loop Inv-loop μ-loop
-  at = c .before .before .before .before .before .before .before .before
+  at = c .before .before .before .before .before
+
+  abbrev typed : tie.After-types Inv-loop μ-loop
+  typed = at .before
+
+  abbrev start : tie.Start Inv-loop μ-loop
+  start = typed .before .before
 
   abbrev kind : ℕ
-  kind = c .before .before .before .before .before .before .record-word .result
+  kind = c .before .before .before .record-word .result
 
   abbrev count : ℕ
-  count = c .before .before .before .before .before .record-word2 .result
+  count = c .before .before .record-word2 .result
 
-  type : at .loop .t < at .before .types .result
-  type = c .before .before .before .before .before .before .before .loop-test .taken
+  type : at .loop .t < typed .types .result
+  type = c .before .before .before .before .loop-test .taken
 
-  read : Read (now (at .before .before .before .args .words)) (at .loop .t) kind (at .loop .index) count
-  read = record {
-    kind-is = c .before .before .before .before .before .before .record-word .ensures;
-    first-is = rw (c .if3 .left) at (c .before .record-word3 .ensures);
-    count-is = c .before .before .before .before .before .record-word2 .ensures;
-    low = c .before .before .before .before .if1 .left;
-    right = told-yes (c .before .before .before .right-count .result) (c .before .before .before .right-count .ensures) (not-false _ (c .before .before .if2 .left));
-  }
+  first-is : Widened (firstAt (now (start .args .words)) (at .loop .t)) (at .loop .index)
+  first-is = rw (c .if1 .left) at (c .before .record-word3 .ensures)
+
+  -- where its children start and end
+  abbrev from : ℕ
+  from = 8 + 3 * typed .types .result + at .loop .index
+
+  abbrev until : ℕ
+  until = 8 + 3 * typed .types .result + (at .loop .index + count)
+
+  stretched : until ≡ from + count
+  stretched = omega arith
+
+-- the record of a type that has children
+module _ (c : tie.Else4 Inv-loop μ-loop) where
+  abbrev record-read : tie.Else1 Inv-loop μ-loop
+  record-read = c .before .before .before
+
+  read : Read (now (start record-read .args .words)) (at record-read .loop .t) (kind record-read) (at record-read .loop .index) (count record-read)
+  read =
+      let right = told-yes (c .before .is-right .result) (c .before .is-right .ensures) (not-false _ (c .if4 .left)) in
+      record {
+        kind-is = record-read .before .before .before .record-word .ensures;
+        first-is = first-is record-read;
+        count-is = record-read .before .before .record-word2 .ensures;
+        low = right .0;
+        right = right .1;
+      }
 
 types-requires : tie.Need-types-requires Inv-loop μ-loop
 types-requires c κs = search needs
@@ -51,7 +78,7 @@ add-list : tie.Need-add-list Inv-loop μ-loop
 add-list c = search needs
 
 loop-holds : tie.Need-loop-holds Inv-loop μ-loop
-loop-holds c = rw (c .before .before .pre .1) (types-start _ (c .before .before .pre .0))
+loop-holds c = let s = c .before .before in rw (s .pre .2) (types-start _ (s .pre .1))
 
 record-word-requires : tie.Need-record-word-requires Inv-loop μ-loop
 record-word-requires c κs = search needs
@@ -59,51 +86,17 @@ record-word-requires c κs = search needs
 record-word-requires-2 : tie.Need-record-word-requires-2 Inv-loop μ-loop
 record-word-requires-2 c κs = search needs
 
+record-word-requires-3 : tie.Need-record-word-requires-3 Inv-loop μ-loop
+record-word-requires-3 c κs = search needs
+
 returns : tie.Need-returns Inv-loop μ-loop
 returns c = λ e. absurd (true≢false (sym e))
-
-right-count-requires : tie.Need-right-count-requires Inv-loop μ-loop
-right-count-requires c κs = search needs
 
 returns-2 : tie.Need-returns-2 Inv-loop μ-loop
 returns-2 c = λ e. absurd (true≢false (sym e))
 
-record-word-requires-3 : tie.Need-record-word-requires-3 Inv-loop μ-loop
-record-word-requires-3 c κs = search needs
-
-returns-3 : tie.Need-returns-3 Inv-loop μ-loop
-returns-3 c = λ e. absurd (true≢false (sym e))
-
-add-start : tie.Need-add-start Inv-loop μ-loop
-add-start c = search needs
-
-add-stretch : tie.Need-add-stretch Inv-loop μ-loop
-add-stretch c = search needs
-
-stretch-requires : tie.Need-stretch-requires Inv-loop μ-loop
-stretch-requires c κs = search needs
-
-stamp-children-requires : tie.Need-stamp-children-requires Inv-loop μ-loop
-stamp-children-requires c κs =
-    let here = c .before .before in
-    (type here, rw (at here .before .types .ensures .is) (at here .before .before .before .pre .0 .few), at here .loop .inv .size)
-
-returns-4 : tie.Need-returns-4 Inv-loop μ-loop
-returns-4 c = λ e. absurd (true≢false (sym e))
-
-rule-of-requires : tie.Need-rule-of-requires Inv-loop μ-loop
-rule-of-requires c κs = search needs
-
-privileges-of-requires : tie.Need-privileges-of-requires Inv-loop μ-loop
-privileges-of-requires c κs =
-    let here = c .before .before .before .before .before in
-    rw (c .rule-of .ensures) (omega (arith, count-small (kind here) (at here .loop .index) (count here), read here .count-is .small))
-
 add-sum : tie.Need-add-sum Inv-loop μ-loop
-add-sum c = search needs
-
-add-index : tie.Need-add-index Inv-loop μ-loop
-add-index c = search needs
+add-sum c = let here = c .before .before in omega (arith, at here .loop .inv .sum-small, at here .loop .inv .within, start here .pre .0 .few, c .if3 .left)
 
 add-t : tie.Need-add-t Inv-loop μ-loop
 add-t c = search needs
@@ -113,33 +106,92 @@ loop-less c = search needs
 
 loop-again : tie.Need-loop-again Inv-loop μ-loop
 loop-again c =
-    let done = c .before .before .before in
-    let here = done .before .before .before in
-    let e = at here .before .types .ensures .is in
-    types-more (at here .loop .inv) (read here) e (type here)
-    (read-children (read here) e refl (done .before .before .stretch .ensures))
-    (done .stamp-children .ensures (not-false _ (c .before .before .if4 .left)))
-    (read-privileges (read here) (c .before .rule-of .ensures) (c .privileges-of .ensures))
+    let here = c .before .before in
+    types-leaf (at here .loop .inv) (here .before .before .before .record-word .ensures) (first-is here) (rw (c .before .if2 .taken) at (here .before .before .record-word2 .ensures))
+    (c .if3 .left)
+    (typed here .types .ensures .is)
+    (type here)
 
-entries-requires : tie.Need-entries-requires Inv-loop μ-loop
-entries-requires c κs = search needs
+is-right-requires : tie.Need-is-right-requires Inv-loop μ-loop
+is-right-requires c κs = search needs
+
+returns-3 : tie.Need-returns-3 Inv-loop μ-loop
+returns-3 c = λ e. absurd (true≢false (sym e))
+
+add-next : tie.Need-add-next Inv-loop μ-loop
+add-next c = search needs
+
+add-if5 : tie.Need-add-if5 Inv-loop μ-loop
+add-if5 c = search needs
+
+returns-4 : tie.Need-returns-4 Inv-loop μ-loop
+returns-4 c = λ e. absurd (true≢false (sym e))
+
+add-stamp-children : tie.Need-add-stamp-children Inv-loop μ-loop
+add-stamp-children c = search needs
+
+add-stamp-children-2 : tie.Need-add-stamp-children-2 Inv-loop μ-loop
+add-stamp-children-2 c = search needs
+
+mul-stamp-children : tie.Need-mul-stamp-children Inv-loop μ-loop
+mul-stamp-children c = search needs
+
+sub-stamp-children : tie.Need-sub-stamp-children Inv-loop μ-loop
+sub-stamp-children c = search needs
+
+part-stamp-children-start : tie.Need-part-stamp-children-start Inv-loop μ-loop
+part-stamp-children-start c = search needs
+
+part-stamp-children-end : tie.Need-part-stamp-children-end Inv-loop μ-loop
+part-stamp-children-end c = search needs
+
+stamp-children-requires : tie.Need-stamp-children-requires Inv-loop μ-loop
+stamp-children-requires c κs =
+    let parent = c .before .before .before .before in
+    let here = record-read parent in
+    (type here, rw (typed here .types .ensures .is) (start here .pre .0 .few), read-few (read parent) (from here) (until here) (stretched here) refl, at here .loop .inv .countable)
 
 returns-5 : tie.Need-returns-5 Inv-loop μ-loop
 returns-5 c = λ e. absurd (true≢false (sym e))
 
+rule-of-requires : tie.Need-rule-of-requires Inv-loop μ-loop
+rule-of-requires c κs = search needs
+
+privileges-of-requires : tie.Need-privileges-of-requires Inv-loop μ-loop
+privileges-of-requires c κs =
+    let parent = c .before .before .before .before .before .before .before in
+    let here = record-read parent in
+    rw (c .rule-of .ensures) (omega (arith, count-small (kind here) (at here .loop .index) (count here), read parent .count-is .small))
+
+add-sum-2 : tie.Need-add-sum-2 Inv-loop μ-loop
+add-sum-2 c = search needs
+
+add-t-2 : tie.Need-add-t-2 Inv-loop μ-loop
+add-t-2 c = search needs
+
+loop-less-2 : tie.Need-loop-less-2 Inv-loop μ-loop
+loop-less-2 c = search needs
+
+loop-again-2 : tie.Need-loop-again-2 Inv-loop μ-loop
+loop-again-2 c =
+    let done = c .before .before .before in
+    let parent = done .before .before .before .before .before in
+    let here = record-read parent in
+    let e = typed here .types .ensures .is in
+    types-more (at here .loop .inv) (read parent) e (type here)
+    (read-children (read parent) (from here) (until here) (stretched here) refl e refl)
+    (done .stamp-children .ensures (not-false _ (c .before .before .if6 .left)))
+    (read-privileges (read parent) (c .before .rule-of .ensures) (c .privileges-of .ensures))
+
+totals-fit-requires : tie.Need-totals-fit-requires Inv-loop μ-loop
+totals-fit-requires c κs = search needs
+
 returns-6 : tie.Need-returns-6 Inv-loop μ-loop
-returns-6 c = λ e. absurd (true≢false (sym e))
-
-word-at-requires : tie.Need-word-at-requires Inv-loop μ-loop
-word-at-requires c κs = search needs
-
-returns-7 : tie.Need-returns-7 Inv-loop μ-loop
-returns-7 c =
-    let end = c .before .before .before .before in
-    λ q. types-all (end .before .loop .inv) (rw (← end .before .before .types .ensures .is) (end .loop-test .left))
-    (c .before .before .if5 .left ∙ c .before .before .before .entries .ensures .is)
-    (c .before .if6 .left)
-    (sym (c .word-at .ensures .is) ∙ eqb-true _ _ q)
+returns-6 c =
+    let end = c .before in
+    let typed = end .before .before in
+    λ q. types-all (end .before .loop .inv) (rw (← typed .types .ensures .is) (end .loop-test .left)) (typed .before .before .pre .0 .few)
+    (told-yes (c .totals-fit .result) (c .totals-fit .ensures) q)
 
 pub types-pass-spec : {M : Type 1} → statement M
 types-pass-spec =
@@ -153,25 +205,31 @@ types-pass-spec =
     loop-holds
     record-word-requires
     record-word-requires-2
-    returns
-    right-count-requires
-    returns-2
     record-word-requires-3
-    returns-3
-    add-start
-    add-stretch
-    stretch-requires
-    stamp-children-requires
-    returns-4
-    rule-of-requires
-    privileges-of-requires
+    returns
+    returns-2
     add-sum
-    add-index
     add-t
     loop-less
     loop-again
-    entries-requires
+    is-right-requires
+    returns-3
+    add-next
+    add-if5
+    returns-4
+    add-stamp-children
+    add-stamp-children-2
+    mul-stamp-children
+    sub-stamp-children
+    part-stamp-children-start
+    part-stamp-children-end
+    stamp-children-requires
     returns-5
-    returns-6
-    word-at-requires
-    returns-7)
+    rule-of-requires
+    privileges-of-requires
+    add-sum-2
+    add-t-2
+    loop-less-2
+    loop-again-2
+    totals-fit-requires
+    returns-6)

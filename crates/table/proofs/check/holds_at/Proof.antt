@@ -1,27 +1,27 @@
 -- By the cases of the check, each from what its own function tells. Assumes nothing.
-use Rattle.table.proofs.Lowest.{tells-le, tells-as}
-use Rattle.table.proofs.Children.{tiled, laid-record, tiled-children, stands-somebodys, somebodys-stands}
+use Rattle.table.proofs.Lowest.{tells-le, tells-not}
+use Rattle.table.proofs.Children.{tiled, childed, laid-record, tiled-children}
 use Rattle.table.specs.Words.{types}
 use Rattle.table.specs.Rule.{HasChildren}
-use Rattle.table.specs.Check.{Laid, numberOf, Asked}
+use Rattle.table.specs.Below.{OnCycle}
+use Rattle.table.specs.Check.{Laid, rankOf}
+use Rattle.table.specs.Flags.{Asked}
 use Rattle.table.specs.declared.check.Check.{Check}
-use Rattle.table.specs.declared.check.Check.the-variants.{Layout, Bounds, Twice, Orphan}
+use Rattle.table.specs.declared.check.Check.the-variants.{Layout, Bounds, Twice, Cycle}
 use Prim.Native.Nat.{ℕ, _<_}
 use mathlib.Core.List.{List}
+use mathlib.Core.Path.{refl}
 use denote.Ref.{now}
-use lib.ListN.{getD}
-use lib.Dec.{eqb}
 use native.Mathlib.Omega.{arith}
-use mathlib.Core.Logic.{inl}
 use borrow.Author.Needs.{needs}
 use Rattle.table.proofs.check.holds_at.Statement.{statement}
 use Rattle.table.proofs.check.holds_at.Tie as tie
 
 -- a check behind the second looks at a run that is laid out as a table, and one behind the fifth at one whose children are all there
-laid : {ws seen : List ℕ} {check : Check} {p : ℕ} → 2 < numberOf check → Asked ws seen check p → Laid ws
+laid : {ws reached : List ℕ} {check : Check} {p : ℕ} → 2 < rankOf check → Asked ws reached check p → Laid ws
 laid h known = known .earlier Layout h 0 (omega arith)
 
-listed : {ws seen : List ℕ} (check : Check) {p : ℕ} → 5 < numberOf check → p < types ws → Asked ws seen check p → HasChildren ws p
+listed : {ws reached : List ℕ} (check : Check) {p : ℕ} → 5 < rankOf check → p < types ws → Asked ws reached check p → HasChildren ws p
 listed check h l known = tiled-children (tiled _ check h (known .earlier)) _ l
 
 enum-told : tie.Need-enum-told
@@ -79,8 +79,8 @@ children-requires c κs =
 types-requires : tie.Need-types-requires
 types-requires c κs = search needs
 
-bounded-requires : tie.Need-bounded-requires
-bounded-requires c κs = search needs
+inside-requires : tie.Need-inside-requires
+inside-requires c κs = search needs
 
 enum-told-7 : tie.Need-enum-told-7
 enum-told-7 c = search needs
@@ -96,53 +96,57 @@ differ-requires c κs = search needs
 enum-told-8 : tie.Need-enum-told-8
 enum-told-8 c = search needs
 
-returns : tie.Need-returns
-returns c = rw (c .before .enum-told8 .given .1) (inl (c .if1 .taken))
-
-element-copy-out-result : tie.Need-element-copy-out-result
-element-copy-out-result c =
-    let known = rw (c .before .enum-told8 .given .1) at (c .before .before .before .before .pre) in
-    omega (arith, known .within, known .earlier Layout (omega arith) 0 (omega arith) .few)
+is-on-cycle-requires : tie.Need-is-on-cycle-requires
+is-on-cycle-requires c κs =
+    let known = rw (c .enum-told8 .given .1) at (c .before .before .before .pre) in
+    (childed Cycle (omega arith) (known .earlier), known .within)
 
 enum-told-9 : tie.Need-enum-told-9
 enum-told-9 c = search needs
 
+element-copy-out-result : tie.Need-element-copy-out-result
+element-copy-out-result c =
+    let known = rw (c .enum-told9 .given .1) at (c .before .before .before .pre) in
+    omega (arith, known .within, laid (omega arith) known .few)
+
+enum-told-10 : tie.Need-enum-told-10
+enum-told-10 c = search needs
+
 is-counted-requires : tie.Need-is-counted-requires
-is-counted-requires c κs = laid (omega arith) (rw (c .enum-told9 .given .1) at (c .before .before .before .pre))
+is-counted-requires c κs = laid (omega arith) (rw (c .enum-told10 .given .1) at (c .before .before .before .pre))
+
+returns : tie.Need-returns
+returns c = rw (c .before .enum-told .given .1) (c .is-headed .ensures)
 
 returns-2 : tie.Need-returns-2
-returns-2 c = rw (c .before .enum-told .given .1) (c .is-headed .ensures)
+returns-2 c = rw (c .before .enum-told2 .given .1) (c .is-laid .ensures)
 
 returns-3 : tie.Need-returns-3
-returns-3 c = rw (c .before .enum-told2 .given .1) (c .is-laid .ensures)
+returns-3 c = rw (c .before .enum-told3 .given .1, ← c .record-word .ensures .is) (tells-le (c .record-word .result) 4)
 
 returns-4 : tie.Need-returns-4
-returns-4 c = rw (c .before .enum-told3 .given .1, ← c .record-word .ensures .is) (tells-le (c .record-word .result) 4)
+returns-4 c = rw (c .before .before .before .enum-told4 .given .1, ← c .before .before .record-word2 .ensures .is, ← c .before .record-word3 .ensures .is) (c .right-count .ensures)
 
 returns-5 : tie.Need-returns-5
-returns-5 c = rw (c .before .before .before .enum-told4 .given .1, ← c .before .before .record-word2 .ensures .is, ← c .before .record-word3 .ensures .is) (c .right-count .ensures)
+returns-5 c = rw (c .before .enum-told5 .given .1) (c .follows .ensures)
 
 returns-6 : tie.Need-returns-6
-returns-6 c = rw (c .before .enum-told5 .given .1) (c .follows .ensures)
+returns-6 c = rw (c .before .before .before .enum-told6 .given .1, ← c .before .before .children .ensures, ← c .before .types .ensures .is) (c .inside .ensures)
 
 returns-7 : tie.Need-returns-7
-returns-7 c = rw (c .before .before .before .enum-told6 .given .1, ← c .before .before .children .ensures, ← c .before .types .ensures .is) (c .bounded .ensures)
+returns-7 c = rw (c .before .before .enum-told7 .given .1, ← c .before .children2 .ensures) (c .differ .ensures)
 
 returns-8 : tie.Need-returns-8
-returns-8 c = rw (c .before .before .enum-told7 .given .1, ← c .before .children2 .ensures) (c .differ .ensures)
+returns-8 c = rw (c .before .enum-told8 .given .1) (tells-not (OnCycle (now (c .before .before .before .before .args .words)) (c .before .before .before .before .args .p)) (c .is-on-cycle .result) (c .is-on-cycle .ensures))
 
 returns-9 : tie.Need-returns-9
 returns-9 c =
-    let a = c .before .before .before .before .before .args in
-    let known = rw (c .before .before .enum-told8 .given .1) at (c .before .before .before .before .before .pre) in
-    let g = tiled (now (a .words)) Orphan (omega arith) (known .earlier) in
-    let few = g .laid .few in
-    rw (c .before .before .enum-told8 .given .1)
-    (tells-as (stands-somebodys g (a .p) (known .within)) (somebodys-stands g (a .p) (c .before .if1 .left)) (eqb (getD (now (a .seen)) (a .p) 0) 1)
-    (known .seen-right (a .p) (omega (arith, known .within))))
+    let start = c .before .before .before .before in
+    let known = rw (c .before .enum-told9 .given .1) at (start .pre) in
+    rw (c .before .enum-told9 .given .1) (known .marked refl (start .args .p) (known .within))
 
 returns-10 : tie.Need-returns-10
-returns-10 c = rw (c .before .enum-told9 .given .1) (c .is-counted .ensures)
+returns-10 c = rw (c .before .enum-told10 .given .1) (c .is-counted .ensures)
 
 pub holds-at-spec : {M : Type 1} → statement M
 holds-at-spec =
@@ -163,15 +167,17 @@ holds-at-spec =
     enum-told-6
     children-requires
     types-requires
-    bounded-requires
+    inside-requires
     enum-told-7
     children-requires-2
     differ-requires
     enum-told-8
-    returns
-    element-copy-out-result
+    is-on-cycle-requires
     enum-told-9
+    element-copy-out-result
+    enum-told-10
     is-counted-requires
+    returns
     returns-2
     returns-3
     returns-4

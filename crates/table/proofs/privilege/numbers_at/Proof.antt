@@ -1,27 +1,21 @@
--- Read off the rule; an accepted table keeps both numbers small. Assumes nothing.
+-- Read off the record; an accepted table keeps both numbers small. Assumes nothing.
 use denote.Ref.{now}
-use Rattle.table.proofs.Facts.{facts, has-record}
+use Rattle.table.proofs.Facts.{facts, has-record, count-recorded}
 use Rattle.table.proofs.Privileges.{first-within}
-use Rattle.table.specs.Rule.{countIn, countOf}
-use mathlib.Core.Path.{ap, _∙_}
+use mathlib.Core.Path.{sym, _∙_}
 use native.Mathlib.Omega.{arith}
-use borrow.Author.Needs.{needs}
 use Rattle.table.proofs.privilege.numbers_at.Statement.{statement}
 use Rattle.table.proofs.privilege.numbers_at.Tie as tie
 
-rule-at-requires : tie.Need-rule-at-requires
-rule-at-requires c κs = let p = c .before .pre in has-record (p .0) (p .1)
-
-count-in-requires : tie.Need-count-in-requires
-count-in-requires c κs = search needs
+record-word-requires : tie.Need-record-word-requires
+record-word-requires c κs = let p = c .before .pre in (has-record (p .0) (p .1), omega arith)
 
 returns : tie.Need-returns
-unfolding countOf
 returns c =
-    let start = c .before .before .before in
+    let start = c .before .before in
     let a = start .args in
     let f = facts (start .pre .0) in
-    let read = c .count-in .ensures ∙ ap countIn (c .before .rule-at .ensures .is) in
+    let read = c .record-word .ensures .is ∙ sym (count-recorded (start .pre .0) (start .pre .1)) in
     record {
       first = start .pre .2;
       count = read;
@@ -30,4 +24,4 @@ returns c =
     }
 
 pub numbers-at-spec : {M : Type 1} → statement M
-numbers-at-spec = tie.close (tie.spec rule-at-requires count-in-requires returns)
+numbers-at-spec = tie.close (tie.spec record-word-requires returns)

@@ -1,14 +1,10 @@
--- The stretch of the rule, which stands in the run. Assumes nothing.
+-- The stretch that the record says, which stands in the run. Assumes nothing.
 use native.Mathlib.Nat.{add-sub-cancel-left}
-use native.Mathlib.Omega.{arith}
-use mathlib.Core.Path.{ap}
-use Rattle.table.specs.Rule.{firstIn, countIn, childrenAt}
+use mathlib.Core.Path.{sym}
 use borrow.Author.Needs.{needs}
+use Rattle.table.proofs.Children.{children-counted}
 use Rattle.table.proofs.rule.children.Statement.{statement}
 use Rattle.table.proofs.rule.children.Tie as tie
-
-rule-at-requires : tie.Need-rule-at-requires
-rule-at-requires c κs = search needs
 
 types-requires : tie.Need-types-requires
 types-requires c κs = search needs
@@ -19,14 +15,14 @@ mul-a c = search needs
 add-a : tie.Need-add-a
 add-a c = search needs
 
-first-in-requires : tie.Need-first-in-requires
-first-in-requires c κs = search needs
+record-word-requires : tie.Need-record-word-requires
+record-word-requires c κs = search needs
 
 add-a-2 : tie.Need-add-a-2
 add-a-2 c = search needs
 
-count-in-requires : tie.Need-count-in-requires
-count-in-requires c κs = search needs
+record-word-requires-2 : tie.Need-record-word-requires-2
+record-word-requires-2 c κs = search needs
 
 add-b : tie.Need-add-b
 add-b c = search needs
@@ -41,26 +37,24 @@ part-result-start : tie.Need-part-result-start
 part-result-start c = search needs
 
 part-result-end : tie.Need-part-result-end
-part-result-end c =
-    let read = c .before .before in
-    let rule = read .before .rule-at .ensures .is in
-    omega (arith, read .before .before .before .pre .listed, ap firstIn rule, ap countIn rule, read .types .ensures .is, c .before .first-in .ensures, c .count-in .ensures)
+part-result-end c = search needs
 
 returns : tie.Need-returns
-unfolding childrenAt
-returns c = rw (add-sub-cancel-left, c .before .before .before .types .ensures .is, c .before .before .first-in .ensures, c .before .count-in .ensures, c .before .before .before .before .rule-at .ensures .is)
+returns c =
+    let start = c .before .before .before .before .before in
+    rw (add-sub-cancel-left, c .before .before .before .types .ensures .is, c .before .before .record-word .ensures .is, c .before .record-word2 .ensures .is)
+    (sym (children-counted _ _ (start .pre .counted)))
 
 pub children-spec : {M : Type 1} → statement M
 children-spec =
     tie.close
     (tie.spec
-    rule-at-requires
     types-requires
     mul-a
     add-a
-    first-in-requires
+    record-word-requires
     add-a-2
-    count-in-requires
+    record-word-requires-2
     add-b
     mul-result
     sub-result

@@ -2,93 +2,75 @@
 use borrow.Author.Needs.{needs}
 use Rattle.verdict.proofs.Lows.{Climbed, climb-start, climb-more, climb-all}
 use Rattle.table.proofs.Facts.{facts, has-children}
-use Rattle.table.specs.Order.{BottomUp}
 use Rattle.table.specs.Words.{types}
 use lib.ListN.{getD}
 use denote.Ref.{now}
-use mathlib.Core.Path.{refl}
-use mathlib.Core.List.{List}
 use native.Mathlib.Omega.{arith}
-use Prim.Native.Nat.{ℕ, _-_, _≤_, _<_}
+use Prim.Native.Nat.{_-_, _≤_, _<_}
 use Rattle.verdict.proofs.below.forbidden_lows.Statement.{statement}
 use Rattle.verdict.proofs.below.forbidden_lows.Tie as tie
 
 abbrev Inv-loop : tie.InvT-loop
-Inv-loop words marks low₀ order e k₀ low k = Climbed words marks order k low
+Inv-loop words marks order low₀ e k₀ low k = Climbed words marks order k low
 
 abbrev μ-loop : tie.MeasureT-loop
-μ-loop words marks low₀ order e k₀ low k = e - k
-
--- the order in which each type comes after its children
-module _ (c : tie.After-bottom-up Inv-loop μ-loop) where
-  abbrev start : tie.Start Inv-loop μ-loop
-  start = c .before .before .before .before
-
-  abbrev order : List ℕ
-  order = c .bottom-up .last .1 .0
-
-  order-up : BottomUp (now (start .args .words)) order
-  order-up = c .bottom-up .ensures (start .pre .0 .accepted)
+μ-loop words marks order low₀ e k₀ low k = e - k
 
 -- the loop stands at a place of the order, which holds a type
 module _ (c : tie.In-loop Inv-loop μ-loop) where
-  abbrev ordered : tie.After-bottom-up Inv-loop μ-loop
-  ordered = c .before .before .before .before .before
+  abbrev start : tie.Start Inv-loop μ-loop
+  start = c .before .before .before .before .before .before .before
 
-  abbrev begin : tie.Start Inv-loop μ-loop
-  begin = start ordered
-
-  is-type : c .before .loop .k < types (now (begin .args .words))
+  is-type : c .before .loop .k < types (now (start .args .words))
   is-type = omega (arith, c .loop-test .taken, c .before .before .before .before .types .ensures .is)
 
-  few : types (now (begin .args .words)) ≤ 256
-  few = facts (begin .pre .0 .accepted) .few
+  few : types (now (start .args .words)) ≤ 256
+  few = facts (start .pre .0 .accepted) .few
 
-  index : getD (order ordered) (c .before .loop .k) 0 < 256
-  index = omega (arith, few, order-up ordered .inside _ is-type)
+  type : getD (now (start .args .order)) (c .before .loop .k) 0 < types (now (start .args .words))
+  type = start .pre .1 .inside _ is-type
 
-bottom-up-requires : tie.Need-bottom-up-requires Inv-loop μ-loop
-bottom-up-requires c κs = refl
+  index : getD (now (start .args .order)) (c .before .loop .k) 0 < 256
+  index = omega (arith, few, type)
 
 types-requires : tie.Need-types-requires Inv-loop μ-loop
 types-requires c κs = search needs
 
 own-lows-requires : tie.Need-own-lows-requires Inv-loop μ-loop
-own-lows-requires c κs = start (c .before .before) .pre
+own-lows-requires c κs = let s = c .before .before .before .before in (s .pre .0, s .pre .2)
 
 loop-holds : tie.Need-loop-holds Inv-loop μ-loop
-loop-holds c = climb-start (order-up (c .before .before .before)) (c .own-lows .ensures)
+loop-holds c = climb-start (c .before .before .before .before .before .pre .1) (c .own-lows .ensures)
 
-array-read-x : tie.Need-array-read-x Inv-loop μ-loop
-array-read-x c = omega (arith, is-type c, few c)
+element-copy-out-x : tie.Need-element-copy-out-x Inv-loop μ-loop
+element-copy-out-x c = omega (arith, is-type c, few c)
 
 cast-x : tie.Need-cast-x Inv-loop μ-loop
-cast-x c = omega (arith, index c)
+cast-x c = omega (arith, index (c .before))
 
 mul-own : tie.Need-mul-own Inv-loop μ-loop
-mul-own c = omega (arith, index c)
+mul-own c = omega (arith, index (c .before))
 
 element-copy-out-own : tie.Need-element-copy-out-own Inv-loop μ-loop
-element-copy-out-own c = index c
+element-copy-out-own c = index (c .before)
 
 children-requires : tie.Need-children-requires Inv-loop μ-loop
 children-requires c κs =
-    let loop = c .before in
-    has-children (begin loop .pre .0 .accepted) (order-up (ordered loop) .inside _ (is-type loop))
+    let loop = c .before .before in
+    has-children (start loop .pre .0 .accepted) (type loop)
 
 least-of-requires : tie.Need-least-of-requires Inv-loop μ-loop
 least-of-requires c κs =
-    let loop = c .before .before .before in
+    let loop = c .before .before .before .before in
     let kids = c .before .children .ensures in
-    let f = facts (begin loop .pre .0 .accepted) in
-    let up = order-up (ordered loop) .inside _ (is-type loop) in
-    λ i l. rw kids (omega (arith, few loop, f .child-inside _ i up (rw (← f .children-here _ up, ← kids) l)))
+    let f = facts (start loop .pre .0 .accepted) in
+    λ i l. rw kids (omega (arith, few loop, f .child-inside _ i (type loop) (rw (← f .children-here _ (type loop), ← kids) l)))
 
 mul-low : tie.Need-mul-low Inv-loop μ-loop
-mul-low c = omega (arith, index (c .before .before .before .before))
+mul-low c = omega (arith, index (c .before .before .before .before .before))
 
 element-write-low : tie.Need-element-write-low Inv-loop μ-loop
-element-write-low c = index (c .before .before .before .before)
+element-write-low c = index (c .before .before .before .before .before)
 
 add-k : tie.Need-add-k Inv-loop μ-loop
 add-k c = omega arith
@@ -98,13 +80,13 @@ loop-less c = omega arith
 
 loop-again : tie.Need-loop-again Inv-loop μ-loop
 loop-again c =
-    let loop = c .before .before .before .before in
-    climb-more (begin loop .pre .0) (order-up (ordered loop)) (loop .before .loop .inv) (is-type loop) (rw (c .before .before .children .ensures) at (c .least-of .ensures))
+    let loop = c .before .before .before .before .before in
+    climb-more (start loop .pre .0) (start loop .pre .1) (loop .before .loop .inv) (is-type loop) (rw (c .before .before .children .ensures) at (c .least-of .ensures))
 
 returns : tie.Need-returns Inv-loop μ-loop
 returns c =
     let at = c .before in
-    climb-all (order-up (at .before .before .before .before)) (at .loop .inv) (omega (arith, c .loop-test .left, at .before .before .before .types .ensures .is))
+    climb-all (at .before .before .before .before .before .before .pre .1) (at .loop .inv) (omega (arith, c .loop-test .left, at .before .before .before .types .ensures .is))
 
 pub forbidden-lows-spec : {M : Type 1} → statement M
 forbidden-lows-spec =
@@ -112,11 +94,10 @@ forbidden-lows-spec =
     (tie.spec
     Inv-loop
     μ-loop
-    bottom-up-requires
     types-requires
     own-lows-requires
     loop-holds
-    array-read-x
+    element-copy-out-x
     cast-x
     mul-own
     element-copy-out-own

@@ -14,17 +14,17 @@ use Rattle.verdict.proofs.breaches.first_breach.Statement.{statement}
 use Rattle.verdict.proofs.breaches.first_breach.Tie as tie
 
 abbrev Inv-loop : tie.InvT-loop
-Inv-loop words marks low e first₀ x₀ first x = (x ≤ e) × (first ≡ firstPrivilege words x) × CleanBefore words marks x
+Inv-loop words marks order low e first₀ x₀ first x = (x ≤ e) × (first ≡ firstPrivilege words x) × CleanBefore words marks x
 
 abbrev μ-loop : tie.MeasureT-loop
-μ-loop words marks low e first₀ x₀ first x = e - x
+μ-loop words marks order low e first₀ x₀ first x = e - x
 
 -- the loop stands at a type
 is-type : (c : tie.In-loop Inv-loop μ-loop) → c .before .loop .x < types (now (c .before .before .before .before .before .before .before .args .words))
 is-type c = omega (arith, c .loop-test .taken, c .before .before .types .ensures .is)
 
 forbidden-lows-requires : tie.Need-forbidden-lows-requires Inv-loop μ-loop
-forbidden-lows-requires c κs = (c .before .before .before .pre, refl)
+forbidden-lows-requires c κs = let pre = c .before .before .before .pre in (pre .0, pre .1, refl)
 
 types-requires : tie.Need-types-requires Inv-loop μ-loop
 types-requires c κs = search needs
@@ -36,7 +36,7 @@ breach-at-requires : tie.Need-breach-at-requires Inv-loop μ-loop
 breach-at-requires c κs =
     let at = c .before .before in
     let start = at .before .before .before .before .before .before in
-    (start .pre, at .before .before .forbidden-lows .ensures, is-type (c .before), at .loop .inv .1)
+    (start .pre .0, at .before .before .forbidden-lows .ensures, is-type (c .before), at .loop .inv .1)
 
 enum-told : tie.Need-enum-told Inv-loop μ-loop
 enum-told c = search needs
@@ -44,13 +44,13 @@ enum-told c = search needs
 privileges-at-requires : tie.Need-privileges-at-requires Inv-loop μ-loop
 privileges-at-requires c κs =
     let loop = c .before .before .before .before in
-    has-record (loop .before .before .before .before .before .before .before .pre .accepted) (is-type loop)
+    has-record (loop .before .before .before .before .before .before .before .pre .0 .accepted) (is-type loop)
 
 add-first : tie.Need-add-first Inv-loop μ-loop
 add-first c =
     let loop = c .before .before .before .before .before in
     let start = loop .before .before .before .before .before .before .before in
-    omega (arith, c .privileges-at .ensures .small, first-within (now (start .args .words)) (loop .before .loop .x) (omega (arith, is-type loop)), facts (start .pre .accepted) .privileges-few)
+    omega (arith, c .privileges-at .ensures .small, first-within (now (start .args .words)) (loop .before .loop .x) (omega (arith, is-type loop)), facts (start .pre .0 .accepted) .privileges-few)
 
 add-x : tie.Need-add-x Inv-loop μ-loop
 add-x c = search needs

@@ -1,8 +1,8 @@
--- Each arm names its number; what is left of 1 to 9 is 9. Assumes nothing.
-use Rattle.table.proofs.Checks.{last-number}
+-- Each arm names its rank; what is left of 1 to 10 is 10. Assumes nothing.
+use Rattle.table.proofs.Checks.{last-rank}
 use borrow.Author.Needs.{needs}
-use Rattle.table.proofs.check.numbered.Statement.{statement}
-use Rattle.table.proofs.check.numbered.Tie as tie
+use Rattle.table.proofs.check.ranked.Statement.{statement}
+use Rattle.table.proofs.check.ranked.Tie as tie
 
 returns : tie.Need-returns
 returns c = search needs
@@ -29,9 +29,13 @@ returns-8 : tie.Need-returns-8
 returns-8 c = search needs
 
 returns-9 : tie.Need-returns-9
-returns-9 c =
+returns-9 c = search needs
+
+returns-10 : tie.Need-returns-10
+returns-10 c =
     let n = c .match .rest in
-    last-number _ (c .before .pre) (
+    last-rank _ (c .before .pre) (
+      n .0 .0 .0 .0 .0 .0 .0 .0 .1,
       n .0 .0 .0 .0 .0 .0 .0 .1,
       n .0 .0 .0 .0 .0 .0 .1,
       n .0 .0 .0 .0 .0 .1,
@@ -42,8 +46,8 @@ returns-9 c =
       n .1,
     )
 
-pub numbered-spec : {M : Type 1} → statement M
-numbered-spec =
+pub ranked-spec : {M : Type 1} → statement M
+ranked-spec =
     tie.close
     (tie.spec
     returns
@@ -54,4 +58,5 @@ numbered-spec =
     returns-6
     returns-7
     returns-8
-    returns-9)
+    returns-9
+    returns-10)

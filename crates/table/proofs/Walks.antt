@@ -9,8 +9,8 @@ use native.Mathlib.Nat.{eq-or-lt-of-le}
 use native.Mathlib.Omega.{arith}
 use lib.Dec.{T}
 use lib.ListN.{length}
 use Rattle.table.proofs.Test.{Test, settle, and-out, and-into, or-out, or-left, or-right, isEqual, someBelow, some-out, some-into}
-use Rattle.verdict.specs.Reached.{Plus, last, next}
+use Rattle.table.specs.Plus.{Plus, last, next}
 
 -- k stands in a list
 abbrev In : ℕ → List ℕ → Type 0
