@@ -26,23 +26,26 @@ module _ (c : tie.In-loop Inv-loop μ-loop) where
   abbrev start : tie.Start Inv-loop μ-loop
   start = c .before .before .before .before .before .before .before
 
+  there : c .before .loop .head < c .before .loop .n
+  there = omega (arith, c .loop-test .taken, c .before .loop .inv .passed)
+
   head-low : c .before .loop .head < 256
-  head-low = omega (arith, c .loop-test .taken, listed-within (c .before .loop .inv .flags .listed))
+  head-low = omega (arith, there, listed-within (c .before .loop .inv .flags .listed))
 
 array-read-children : tie.Need-array-read-children Inv-loop μ-loop
 array-read-children c = omega (arith, head-low c)
 
 cast-children : tie.Need-cast-children Inv-loop μ-loop
-cast-children c = omega (arith, c .before .loop .inv .flags .listed .inside (c .before .loop .head) (c .loop-test .taken))
+cast-children c = omega (arith, c .before .loop .inv .flags .listed .inside (c .before .loop .head) (there c))
 
 children-requires : tie.Need-children-requires Inv-loop μ-loop
-children-requires c κs = tiled-children (start c .pre .0 .tiled) _ (c .before .loop .inv .inside (c .before .loop .head) (c .loop-test .taken))
+children-requires c κs = tiled-children (start c .pre .0 .tiled) _ (c .before .loop .inv .inside (c .before .loop .head) (there c))
 
 add-kids-requires-2 : tie.Need-add-kids-requires-2 Inv-loop μ-loop
 add-kids-requires-2 c κs =
     let kids = c .before .before in
     let loop = kids .before in
-    mark-asks (start loop .pre .0) (loop .before .loop .inv) (loop .loop-test .taken) (kids .children .ensures)
+    mark-asks (start loop .pre .0) (loop .before .loop .inv) (there loop) (kids .children .ensures)
 
 add-head : tie.Need-add-head Inv-loop μ-loop
 add-head c = omega (arith, head-low (c .before .before .before .before))
@@ -54,12 +57,12 @@ loop-again : tie.Need-loop-again Inv-loop μ-loop
 loop-again c =
     let kids = c .before .before .before in
     let loop = kids .before in
-    mark-more (start loop .pre .0) (loop .before .loop .inv) (loop .loop-test .taken) (kids .children .ensures) (start loop .pre .1) (c .add-kids2 .ensures)
+    mark-more (start loop .pre .0) (loop .before .loop .inv) (there loop) (kids .children .ensures) (start loop .pre .1) (c .add-kids2 .ensures)
 
 returns : tie.Need-returns Inv-loop μ-loop
 returns c =
     let s = c .before .before .before .before .before .before .before in
-    mark-all (s .pre .0) (s .pre .1) (c .before .loop .inv) (c .loop-test .left)
+    mark-all (s .pre .0) (s .pre .1) (c .before .loop .inv) (omega (arith, c .loop-test .left))
 
 pub mark-below-spec : {M : Type 1} → statement M
 mark-below-spec =
