@@ -50,11 +50,11 @@ pub const MAKES: [Make; 3] = [
     },
     Make {
         name: "second",
-        check_table: plain::check_table_call,
-        judge_policy: plain::judge_policy_call,
-        complete: plain::complete_call,
-        mend: plain::mend_call,
-        judge_mend: plain::judge_mend_call,
+        check_table: plain::check_table,
+        judge_policy: plain::judge_policy,
+        complete: plain::complete,
+        mend: plain::mend,
+        judge_mend: plain::judge_mend,
     },
 ];
 

@@ -1,38 +1,37 @@
-// The second program as it stands, with its five calls in the form of `calls`.
-#![allow(dead_code)]
+// The five calls of the second program in the form of `calls`.
 
-include!("../second/second.rs");
+use crate::calls::{Case, Outcome};
+use second::answers::{answer, Answer, Breach};
+use second::{cases, completing, conditions, mending, table};
 
-use crate::calls::Outcome as Told8;
-
-fn told8(outcome: Outcome) -> Told8 {
+fn outcome_of(outcome: second::answers::Outcome) -> Outcome {
     let Answer { number, place, count, breach } = answer(outcome);
     let Breach { condition, of, i, j, privilege } = breach;
-    Told8 { number, place, count, condition, element: of, i, j, privilege }
+    Outcome { number, place, count, condition, element: of, i, j, privilege }
 }
 
-pub fn check_table_call(words: &[u16]) -> Told8 {
-    told8(check(words))
+pub fn check_table(words: &[u16]) -> Outcome {
+    outcome_of(table::check(words))
 }
 
-pub fn judge_policy_call(words: &[u16], marks: &[u8]) -> Told8 {
-    told8(verdict(words, marks))
+pub fn judge_policy(words: &[u16], marks: &[u8]) -> Outcome {
+    outcome_of(conditions::verdict(words, marks))
 }
 
-pub fn complete_call(words: &[u16], marks: &[u8], out: &mut [u8]) -> Told8 {
-    told8(complete(words, marks, out))
+pub fn complete(words: &[u16], marks: &[u8], out: &mut [u8]) -> Outcome {
+    outcome_of(completing::complete(words, marks, out))
 }
 
-pub fn mend_call(words: &[u16], marks: &[u8], out: &mut [u8]) -> Told8 {
-    told8(mend(words, marks, out))
+pub fn mend(words: &[u16], marks: &[u8], out: &mut [u8]) -> Outcome {
+    outcome_of(mending::mend(words, marks, out))
 }
 
-pub fn judge_mend_call(words: &[u16], marks: &[u8], proposed: &[u8]) -> Told8 {
-    told8(judge_mend(words, marks, proposed))
+pub fn judge_mend(words: &[u16], marks: &[u8], proposed: &[u8]) -> Outcome {
+    outcome_of(mending::judge_mend(words, marks, proposed))
 }
 
 /// The cases of a stream (second/README.md has its form).
-pub fn cases_of(stream: &[u8]) -> Vec<crate::calls::Case> {
-    let plain = |Case { words, marks, out, proposed }| crate::calls::Case { words, marks, out, proposed };
-    read_cases(stream).into_iter().map(plain).collect()
+pub fn cases_of(stream: &[u8]) -> Vec<Case> {
+    let plain = |cases::Case { words, marks, out, proposed }| Case { words, marks, out, proposed };
+    cases::read_cases(stream).into_iter().map(plain).collect()
 }

@@ -1,0 +1,52 @@
+// What a call answers, and how it is refused.
+
+#[derive(Clone, Copy, Debug, Default, PartialEq)]
+pub struct Breach {
+    pub condition: usize,
+    pub of: usize,
+    pub i: usize,
+    pub j: usize,
+    pub privilege: usize,
+}
+
+#[derive(Clone, Copy, Debug, Default, PartialEq)]
+pub struct Answer {
+    pub number: usize,
+    pub place: usize,
+    pub count: usize,
+    pub breach: Breach,
+}
+
+/// A call's outcome: done, or refused.
+pub type Outcome = Result<Answer, Answer>;
+
+pub fn answer(outcome: Outcome) -> Answer {
+    outcome.unwrap_or_else(|refusal| refusal)
+}
+
+pub fn refuse_at(number: usize, place: Option<usize>) -> Result<(), Answer> {
+    match place {
+        None => Ok(()),
+        Some(place) => Err(Answer { number, place, ..Answer::default() }),
+    }
+}
+
+pub fn refuse_if(number: usize, failed: bool) -> Result<(), Answer> {
+    refuse_at(number, if failed { Some(0) } else { None })
+}
+
+pub fn refuse_breach(breach: Option<Breach>) -> Result<(), Answer> {
+    match breach {
+        None => Ok(()),
+        Some(breach) => Err(Answer { number: 16, breach, ..Answer::default() }),
+    }
+}
+
+pub fn breach_text(breach: &Breach) -> String {
+    let Breach { condition, of, i, j, privilege } = breach;
+    format!("{} {} {} {} {}", condition, of, i, j, privilege)
+}
+
+pub fn answer_text(answer: &Answer) -> String {
+    format!("{} {} {} {}", answer.number, answer.place, answer.count, breach_text(&answer.breach))
+}

@@ -1,0 +1,81 @@
+// The three conditions: what they force, the first breach, and the call `verdict`.
+
+use crate::answers::{refuse_at, refuse_if, Answer, Breach, Outcome};
+use crate::table::{check_table, Table, ALLOWED, CHOICE, FORBIDDEN, STAR};
+
+/// The positions reached from i by one or more allowed replacements, breadth first.
+pub fn reached(table: &Table, marks: &[u8], choice: usize, i: usize) -> Vec<bool> {
+    let n = table.types[choice].children.len();
+    let mut found = vec![false; n];
+    let mut queue = vec![i];
+    let mut next = 0;
+    while next < queue.len() {
+        for j in 0..n {
+            if !found[j] && table.allows(marks, choice, queue[next], j) {
+                found[j] = true;
+                queue.push(j);
+            }
+        }
+        next += 1;
+    }
+    found
+}
+
+fn forced_by_star(table: &Table, marks: &[u8], of: usize) -> Vec<Breach> {
+    if marks[table.insert(of)] != ALLOWED || marks[table.delete(of)] != ALLOWED {
+        return Vec::new();
+    }
+    let child = table.types[of].children[0];
+    let forced = |&privilege: &usize| Breach { condition: 1, of, i: 0, j: 0, privilege };
+    table.below[child].iter().map(forced).collect()
+}
+
+fn forced_by_choice(table: &Table, marks: &[u8], of: usize) -> Vec<Breach> {
+    let children = &table.types[of].children;
+    let n = children.len();
+    let reach: Vec<Vec<bool>> = (0..n).map(|i| reached(table, marks, of, i)).collect();
+    let mut forced = Vec::new();
+    for i in 0..n {
+        for j in (0..n).filter(|&j| j != i && reach[i][j]) {
+            forced.push(Breach { condition: 2, of, i, j, privilege: table.replacement(of, i, j) });
+        }
+    }
+    for i in (0..n).filter(|&i| reach[i][i]) {
+        for &privilege in &table.below[children[i]] {
+            forced.push(Breach { condition: 3, of, i, j: i, privilege });
+        }
+    }
+    forced
+}
+
+/// What the three conditions say of one type: the privileges that must not be forbidden,
+/// each as the breach it would be, in the stated order.
+fn forced_at(table: &Table, marks: &[u8], of: usize) -> Vec<Breach> {
+    match table.types[of].kind {
+        STAR => forced_by_star(table, marks, of),
+        CHOICE => forced_by_choice(table, marks, of),
+        _ => Vec::new(),
+    }
+}
+
+pub fn forced<'a>(table: &'a Table, marks: &'a [u8]) -> impl Iterator<Item = Breach> + 'a {
+    (0..table.types.len()).flat_map(move |of| forced_at(table, marks, of))
+}
+
+pub fn first_breach(table: &Table, marks: &[u8]) -> Option<Breach> {
+    forced(table, marks).find(|breach| marks[breach.privilege] == FORBIDDEN)
+}
+
+/// The table's numbers, then 10 and 11.
+pub fn check_policy(words: &[u16], marks: &[u8]) -> Result<Table, Answer> {
+    let table = check_table(words)?;
+    refuse_if(10, marks.len() != table.v())?;
+    refuse_at(11, marks.iter().position(|&mark| mark > FORBIDDEN))?;
+    Ok(table)
+}
+
+pub fn verdict(words: &[u16], marks: &[u8]) -> Outcome {
+    let table = check_policy(words, marks)?;
+    let breach = first_breach(&table, marks).unwrap_or_default();
+    Ok(Answer { breach, ..Answer::default() })
+}

@@ -1,0 +1,50 @@
+// The second program's check of itself.
+
+mod literal;
+mod policies;
+mod samples;
+mod tables;
+
+use crate::counting::HIGHEST_NUMBER;
+use crate::fail;
+use crate::making::chance::Random;
+use policies::{
+    self_completion, self_mend, self_one_more, self_renumbered, self_verdict, small_policy, unset,
+};
+use samples::self_both_numberings;
+use tables::{self_descent, self_hierarchies, self_named_tables, self_numbering, small_schema};
+
+fn expect(holds: bool, what: &str) {
+    if !holds {
+        fail(&format!("differs: {}", what));
+    }
+}
+
+pub fn self_check(seed: u64, count: usize) -> String {
+    self_both_numberings();
+    self_named_tables();
+    self_hierarchies();
+    let mut r = Random(seed);
+    let mut numbers = [0; HIGHEST_NUMBER + 1];
+    for _ in 0..count {
+        numbers[self_descent(&small_schema(&mut r))] += 1;
+    }
+    let (mut clean, mut blanks) = (0, 0);
+    for _ in 0..count {
+        let (schema, table, marks) = small_policy(&mut r);
+        let words = schema.words();
+        self_numbering(&table);
+        self_verdict(&words, &table, &marks);
+        self_one_more(&words, &marks);
+        self_mend(&words, &table, &marks);
+        self_renumbered(&mut r, &schema, &table, &marks);
+        clean += self_completion(&words, &table, &marks) as usize;
+        blanks += unset(&marks);
+    }
+    [
+        format!("self: S1 to S10 in both numberings, the named tables, {} tables ", count),
+        format!("({} accepted, {} with number 8, {} with 19) ", numbers[0], numbers[8], numbers[19]),
+        format!("and {} policies ({} clean, {} unset marks) hold\n", count, clean, blanks),
+    ]
+    .concat()
+}

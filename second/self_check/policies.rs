@@ -1,0 +1,130 @@
+// Small policies by chance: against what is read literally, against all their fully decided extensions, and in another numbering.
+
+use super::expect;
+use super::literal::{breaches, mended_literally, passes};
+use crate::answers::{answer, Answer, Breach};
+use crate::completing::complete;
+use crate::conditions::verdict;
+use crate::making::chance::Random;
+use crate::making::policies::policy;
+use crate::making::schemas::{chance_numbers, schema, Schema};
+use crate::mending::{judge_mend, mend};
+use crate::table::{check_table, Table, ALLOWED, FORBIDDEN, UNSET};
+
+pub fn self_verdict(words: &[u16], table: &Table, marks: &[u8]) {
+    let least = breaches(table, marks).into_iter().min().unwrap_or([0; 5]);
+    let [of, condition, i, j, privilege] = least;
+    let breach = Breach { condition, of, i, j, privilege };
+    expect(verdict(words, marks) == Ok(Answer { breach, ..Answer::default() }), "the first breach");
+}
+
+/// Every fully decided policy that keeps the set marks and passes.
+fn clean_extensions(table: &Table, marks: &[u8]) -> Vec<Vec<u8>> {
+    let unset: Vec<usize> = (0..marks.len()).filter(|&p| marks[p] == UNSET).collect();
+    let extension = |bits: usize| {
+        let mut decided = marks.to_vec();
+        for (k, &p) in unset.iter().enumerate() {
+            decided[p] = if bits >> k & 1 == 1 { ALLOWED } else { FORBIDDEN };
+        }
+        decided
+    };
+    (0..1 << unset.len()).map(extension).filter(|decided| passes(table, decided)).collect()
+}
+
+fn allows_no_more(less: &[u8], more: &[u8]) -> bool {
+    less.iter().zip(more).all(|(&a, &b)| a != ALLOWED || b == ALLOWED)
+}
+
+fn completed(words: &[u16], marks: &[u8]) -> Option<Vec<u8>> {
+    let mut out = marks.to_vec();
+    complete(words, marks, &mut out).ok().map(|_| out)
+}
+
+/// Demand 3 literally; tells whether the policy could be completed.
+pub fn self_completion(words: &[u16], table: &Table, marks: &[u8]) -> bool {
+    let clean = clean_extensions(table, marks);
+    let found = completed(words, marks);
+    expect(found.is_none() == clean.is_empty(), "refused exactly if there is no clean extension");
+    expect(found.is_some() == passes(table, marks), "clean exactly if it can be completed");
+    if let Some(least) = &found {
+        expect(clean.contains(least), "a completion passes and keeps the marks");
+        expect(clean.iter().all(|decided| allows_no_more(least, decided)), "a completion is least");
+    }
+    found.is_some()
+}
+
+pub fn self_one_more(words: &[u16], marks: &[u8]) {
+    let earlier = completed(words, marks);
+    for p in (0..marks.len()).filter(|&p| marks[p] == UNSET) {
+        for mark in [ALLOWED, FORBIDDEN] {
+            let mut fuller = marks.to_vec();
+            fuller[p] = mark;
+            if let Some(later) = completed(words, &fuller) {
+                let kept = earlier.as_ref().map_or(false, |before| allows_no_more(before, &later));
+                expect(kept, "one more blank takes no permission back");
+            }
+        }
+    }
+}
+
+pub fn self_mend(words: &[u16], table: &Table, marks: &[u8]) {
+    let mut out = vec![9; marks.len()];
+    let done = answer(mend(words, marks, &mut out));
+    expect(out == mended_literally(table, marks), "a mend is what the rule gives");
+    let changed: Vec<usize> = (0..marks.len()).filter(|&p| marks[p] != out[p]).collect();
+    expect(passes(table, &out), "a mend ends clean");
+    expect(changed.iter().all(|&p| marks[p] == ALLOWED && out[p] == FORBIDDEN), "a mend turns 1 into 2");
+    expect(done == Answer { count: changed.len(), ..Answer::default() }, "a mend's count");
+    expect(!passes(table, marks) || changed.is_empty(), "a clean policy is copied");
+    expect(judge_mend(words, marks, &out) == Ok(done), "a mend is accepted when proposed");
+}
+
+/// The marks in another numbering of the types: each edit of a type keeps its mark.
+fn carried(from: &Table, to: &Table, numbers: &[usize], marks: &[u8]) -> Vec<u8> {
+    let mut after = vec![UNSET; marks.len()];
+    for (p, &mark) in marks.iter().enumerate() {
+        let t = from.owner[p];
+        after[to.first[numbers[t]] + p - from.first[t]] = mark;
+    }
+    after
+}
+
+/// In another numbering a policy is clean as it was, and its completion is the same.
+pub fn self_renumbered(r: &mut Random, schema: &Schema, table: &Table, marks: &[u8]) {
+    let numbers = chance_numbers(r, table.types.len());
+    let (words, other) = (schema.words(), schema.renumbered(&numbers).words());
+    let to = check_table(&other).expect("an accepted table is accepted in every numbering");
+    let after = carried(table, &to, &numbers, marks);
+    let clean = |words: &[u16], marks: &[u8]| answer(verdict(words, marks)).breach == Breach::default();
+    expect(clean(&words, marks) == clean(&other, &after), "clean in every numbering");
+    let expected = completed(&words, marks).map(|out| carried(table, &to, &numbers, &out));
+    expect(completed(&other, &after) == expected, "the same completion in every numbering");
+}
+
+/// A small table and a policy with at most ten unset marks.
+pub fn small_policy(r: &mut Random) -> (Schema, Table, Vec<u8>) {
+    loop {
+        let schema = schema(r);
+        let table = check_table(&schema.words()).expect("a shape is accepted in every numbering");
+        if table.v() == 0 || table.v() > 20 || table.types.len() > 12 {
+            continue;
+        }
+        let mut marks = policy(r, &table);
+        leave_unset(r, &mut marks);
+        return (schema, table, marks);
+    }
+}
+
+pub fn unset(marks: &[u8]) -> usize {
+    marks.iter().filter(|&&mark| mark == UNSET).count()
+}
+
+/// Unsets marks, or sets some, until there are as many unset ones as chance says, at most ten.
+fn leave_unset(r: &mut Random, marks: &mut [u8]) {
+    let wanted = r.below(11).min(marks.len());
+    while unset(marks) != wanted {
+        let p = r.below(marks.len());
+        let set = r.pick(&[ALLOWED, FORBIDDEN]);
+        marks[p] = if unset(marks) > wanted { set } else { UNSET };
+    }
+}
