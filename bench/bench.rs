@@ -11,6 +11,8 @@ mod calls;
 mod fast;
 mod inputs;
 mod plain;
+#[path = "../bindings/rust/src/border.rs"]
+mod proved;
 mod stack;
 
 use calls::{run, Call, Case, Make, CALLS, MAKES};

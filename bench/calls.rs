@@ -1,20 +1,9 @@
 // The five calls, of three makes: proved, fast and second.
 
-use crate::{fast, plain};
+use crate::{fast, plain, proved};
 
-/// What a call answers, in the proved library's form; a table's answer has zeros behind its place.
-#[repr(C)]
-#[derive(Clone, Copy, Debug, Default, PartialEq)]
-pub struct Outcome {
-    pub number: usize,
-    pub place: usize,
-    pub count: usize,
-    pub condition: usize,
-    pub element: usize,
-    pub i: usize,
-    pub j: usize,
-    pub privilege: usize,
-}
+/// What a call answers; a table's answer has zeros behind its place.
+pub use crate::proved::Outcome;
 
 impl Outcome {
     pub fn refusal(number: usize, place: usize) -> Outcome {
@@ -83,13 +72,7 @@ impl Call {
 }
 
 /// What a call is lent; a call takes what it needs of it.
-#[derive(Clone)]
-pub struct Case {
-    pub words: Vec<u16>,
-    pub marks: Vec<u8>,
-    pub out: Vec<u8>,
-    pub proposed: Vec<u8>,
-}
+pub use second::policy_case::PolicyCase as Case;
 
 /// Makes one call on a case; a result is written into the case's `out`.
 pub fn run(make: &Make, call: Call, case: &mut Case) -> Outcome {
@@ -100,70 +83,5 @@ pub fn run(make: &Make, call: Call, case: &mut Case) -> Outcome {
         Call::Complete => (make.complete)(words, marks, out),
         Call::Mend => (make.mend)(words, marks, out),
         Call::JudgeMend => (make.judge_mend)(words, marks, proposed),
-    }
-}
-
-/// The proved library. A slice crosses as its pointer and its length, which is what the archive's functions take.
-mod proved {
-    use super::Outcome;
-
-    #[link(name = "store", kind = "static")]
-    extern "C" {
-        fn finnedscarf_check_table(words: *const u16, size: usize) -> Outcome;
-        fn finnedscarf_judge_policy(
-            words: *const u16,
-            size: usize,
-            marks: *const u8,
-            length: usize,
-        ) -> Outcome;
-        fn finnedscarf_complete(
-            words: *const u16,
-            size: usize,
-            marks: *const u8,
-            length: usize,
-            out: *mut u8,
-            room: usize,
-        ) -> Outcome;
-        fn finnedscarf_mend(
-            words: *const u16,
-            size: usize,
-            marks: *const u8,
-            length: usize,
-            out: *mut u8,
-            room: usize,
-        ) -> Outcome;
-        fn finnedscarf_judge_mend(
-            words: *const u16,
-            size: usize,
-            marks: *const u8,
-            length: usize,
-            proposed: *const u8,
-            proposals: usize,
-        ) -> Outcome;
-    }
-
-    // Each pointer and length comes from one slice that lives through the call, and no `requires` is left to meet.
-
-    pub fn check_table(words: &[u16]) -> Outcome {
-        unsafe { finnedscarf_check_table(words.as_ptr(), words.len()) }
-    }
-
-    pub fn judge_policy(w: &[u16], m: &[u8]) -> Outcome {
-        unsafe { finnedscarf_judge_policy(w.as_ptr(), w.len(), m.as_ptr(), m.len()) }
-    }
-
-    pub fn complete(w: &[u16], m: &[u8], out: &mut [u8]) -> Outcome {
-        let (to, room) = (out.as_mut_ptr(), out.len());
-        unsafe { finnedscarf_complete(w.as_ptr(), w.len(), m.as_ptr(), m.len(), to, room) }
-    }
-
-    pub fn mend(w: &[u16], m: &[u8], out: &mut [u8]) -> Outcome {
-        let (to, room) = (out.as_mut_ptr(), out.len());
-        unsafe { finnedscarf_mend(w.as_ptr(), w.len(), m.as_ptr(), m.len(), to, room) }
-    }
-
-    pub fn judge_mend(w: &[u16], m: &[u8], p: &[u8]) -> Outcome {
-        let (from, length) = (p.as_ptr(), p.len());
-        unsafe { finnedscarf_judge_mend(w.as_ptr(), w.len(), m.as_ptr(), m.len(), from, length) }
     }
 }

@@ -32,6 +32,8 @@ pub fn judge_mend(words: &[u16], marks: &[u8], proposed: &[u8]) -> Outcome {
 
 /// The cases of a stream (second/README.md has its form).
 pub fn cases_of(stream: &[u8]) -> Vec<Case> {
-    let plain = |cases::Case { words, marks, out, proposed }| Case { words, marks, out, proposed };
-    cases::read_cases(stream).into_iter().map(plain).collect()
+    let policy = |case| match case {
+        cases::Case::Policy(case) => case,
+    };
+    cases::read_cases(stream).into_iter().map(policy).collect()
 }

@@ -1,89 +1,68 @@
-// Cases as a stream, and what the five calls answer to them.
+// Cases as a stream, and what the calls answer to them: a case is its kind, one byte, and then the runs of that kind.
 
-use crate::answers::{answer, answer_text, Answer};
-use crate::completing::complete;
-use crate::conditions::verdict;
-use crate::mending::{judge_mend, mend};
-use crate::stream::{put, take_run, to_bytes, to_words};
-use crate::table::check;
+use crate::calls::{Call, Told};
+use crate::fail;
+use crate::policy_case::{self, PolicyCase};
+use crate::stream::take;
 
-pub struct Case {
-    pub words: Vec<u16>,
-    pub marks: Vec<u8>,
-    pub out: Vec<u8>,
-    pub proposed: Vec<u8>,
+pub enum Case {
+    Policy(PolicyCase),
 }
 
 impl Case {
+    fn read(stream: &mut &[u8]) -> Case {
+        match take(stream, 1)[0] {
+            policy_case::KIND => Case::Policy(PolicyCase::read(stream)),
+            kind => fail(&format!("there is no kind {}", kind)),
+        }
+    }
+
     pub fn write(&self, stream: &mut Vec<u8>) {
-        put(stream, self.words.len(), &to_bytes(&self.words));
-        for run in [&self.marks, &self.out, &self.proposed] {
-            put(stream, run.len(), run);
+        match self {
+            Case::Policy(case) => {
+                stream.push(policy_case::KIND);
+                case.write(stream);
+            }
         }
     }
 
     /// The case as a file for the program judge.
     pub fn file(&self) -> Vec<u8> {
-        let mut file = to_bytes(&self.words);
-        file.extend(&self.marks);
-        file
+        match self {
+            Case::Policy(case) => case.file(),
+        }
     }
+
+    /// The name of each call on such a case, and what it tells.
+    pub fn tell(&self) -> Vec<(&'static str, Told)> {
+        match self {
+            Case::Policy(case) => tell(&policy_case::CALLS, case),
+        }
+    }
+}
+
+fn tell<C>(calls: &[Call<C>], case: &C) -> Vec<(&'static str, Told)> {
+    calls.iter().map(|call| (call.name, (call.make)(case))).collect()
 }
 
 pub fn read_cases(mut stream: &[u8]) -> Vec<Case> {
     let mut cases = Vec::new();
     while !stream.is_empty() {
-        let words = to_words(take_run(&mut stream, 2));
-        let marks = take_run(&mut stream, 1).to_vec();
-        let out = take_run(&mut stream, 1).to_vec();
-        let proposed = take_run(&mut stream, 1).to_vec();
-        cases.push(Case { words, marks, out, proposed });
+        cases.push(Case::read(&mut stream));
     }
     cases
 }
 
-/// Two hexadecimal digits a byte.
-fn hex(bytes: &[u8]) -> String {
-    bytes.iter().map(|byte| format!("{:02x}", byte)).collect()
+pub fn write_cases(cases: impl Iterator<Item = Case>) -> Vec<u8> {
+    let mut stream = Vec::new();
+    cases.for_each(|case| case.write(&mut stream));
+    stream
 }
 
-/// What the five calls answer to a case, and the two results afterwards.
-pub struct Told {
-    pub check: Answer,
-    pub verdict: Answer,
-    pub complete: Answer,
-    pub completed: Vec<u8>,
-    pub mend: Answer,
-    pub mended: Vec<u8>,
-    pub propose: Answer,
-}
-
-pub fn tell(case: &Case) -> Told {
-    let Case { words, marks, out, proposed } = case;
-    let (mut completed, mut mended) = (out.clone(), out.clone());
-    Told {
-        check: answer(check(words)),
-        verdict: answer(verdict(words, marks)),
-        complete: answer(complete(words, marks, &mut completed)),
-        completed,
-        mend: answer(mend(words, marks, &mut mended)),
-        mended,
-        propose: answer(judge_mend(words, marks, proposed)),
-    }
-}
-
-fn told_text(case: usize, told: &Told) -> String {
-    [
-        format!("{} check {} {}\n", case, told.check.number, told.check.place),
-        format!("{} verdict {}\n", case, answer_text(&told.verdict)),
-        format!("{} complete {} {}\n", case, answer_text(&told.complete), hex(&told.completed)),
-        format!("{} mend {} {}\n", case, answer_text(&told.mend), hex(&told.mended)),
-        format!("{} propose {}\n", case, answer_text(&told.propose)),
-    ]
-    .concat()
+fn lines(number: usize, case: &Case) -> String {
+    case.tell().iter().map(|(name, told)| format!("{} {} {}\n", number, name, told.text())).collect()
 }
 
 pub fn answers(stream: &[u8]) -> String {
-    let cases = read_cases(stream);
-    (0..cases.len()).map(|k| told_text(k, &tell(&cases[k]))).collect()
+    read_cases(stream).iter().enumerate().map(|(number, case)| lines(number, case)).collect()
 }

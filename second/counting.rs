@@ -1,48 +1,119 @@
 // How often each call gave each number and each condition.
 
-use crate::cases::{read_cases, tell};
-
-/// A call's name, the numbers it can give, and whether its answer can hold a breach.
-const CALLS: [(&str, &[usize], bool); 5] = [
-    ("check", &[0, 1, 2, 3, 4, 5, 6, 7, 19, 8, 9], false),
-    ("verdict", &[0, 1, 2, 3, 4, 5, 6, 7, 19, 8, 9, 10, 11], true),
-    ("complete", &[0, 1, 2, 3, 4, 5, 6, 7, 19, 8, 9, 10, 11, 12, 16], true),
-    ("mend", &[0, 1, 2, 3, 4, 5, 6, 7, 19, 8, 9, 10, 11, 12], false),
-    ("propose", &[0, 1, 2, 3, 4, 5, 6, 7, 19, 8, 9, 10, 11, 13, 14, 15, 16], true),
-];
+use crate::answers::Answer;
+use crate::calls::{Call, POLICY, TABLE};
+use crate::cases::read_cases;
+use crate::policy_case;
+use std::collections::BTreeMap;
 
 /// The numbers in the order of the checks.
-const NUMBERS: [usize; 18] = [0, 1, 2, 3, 4, 5, 6, 7, 19, 8, 9, 10, 11, 12, 13, 14, 15, 16];
-pub const HIGHEST_NUMBER: usize = 19;
+const NUMBERS: &[&[usize]] = &[TABLE, POLICY, &[12, 13, 14, 15, 16]];
 
-pub fn count_line(name: &str, numbers: &[usize], conditions: &[usize]) -> String {
-    let cells = |counts: &[usize]| counts.iter().map(|n| format!("{:>5}", n)).collect::<String>();
-    format!("{:<9}{} |{}\n", name, cells(numbers), cells(&conditions[1..]))
+const CONDITIONS: [usize; 3] = [1, 2, 3];
+
+/// How often each of some numbers came.
+#[derive(Default)]
+struct Tally(BTreeMap<usize, usize>);
+
+impl Tally {
+    fn add(&mut self, number: usize) {
+        *self.0.entry(number).or_default() += 1;
+    }
+
+    fn of(&self, numbers: &[usize]) -> Vec<usize> {
+        numbers.iter().map(|number| self.0.get(number).copied().unwrap_or(0)).collect()
+    }
+
+    fn total(&self) -> usize {
+        self.0.values().sum()
+    }
+
+    fn most(&self) -> usize {
+        self.0.values().copied().max().unwrap_or(0)
+    }
 }
 
-/// What was counted of each of the numbers named.
-pub fn counted(counts: &[usize], numbers: &[usize]) -> Vec<usize> {
-    numbers.iter().map(|&number| counts[number]).collect()
+/// What came of one call.
+pub struct Row {
+    name: &'static str,
+    possible: Vec<usize>,
+    breaches: bool,
+    numbers: Tally,
+    conditions: Tally,
 }
 
-/// How often each call gave each number (before the bar) and each condition (after it).
-pub fn count(stream: &[u8]) -> String {
-    let mut numbers = [[0; HIGHEST_NUMBER + 1]; 5];
-    let mut conditions = [[0; 4]; 5];
-    for told in read_cases(stream).iter().map(tell) {
-        let all = [told.check, told.verdict, told.complete, told.mend, told.propose];
-        for (call, answer) in all.iter().enumerate() {
-            numbers[call][answer.number] += 1;
-            conditions[call][answer.breach.condition] += 1;
+impl Row {
+    pub fn new(name: &'static str, possible: &[&[usize]], breaches: bool) -> Row {
+        Row {
+            name,
+            possible: possible.concat(),
+            breaches,
+            numbers: Tally::default(),
+            conditions: Tally::default(),
         }
     }
-    let mut text = count_line("", &NUMBERS, &[0, 1, 2, 3]);
-    let mut fewest = usize::MAX;
-    for (call, &(name, possible, breaches)) in CALLS.iter().enumerate() {
-        text += &count_line(name, &counted(&numbers[call], &NUMBERS), &conditions[call]);
-        let least_number = counted(&numbers[call], possible).into_iter().min();
-        let least_condition = conditions[call][1..].iter().copied().filter(|_| breaches).min();
-        fewest = fewest.min(least_number.unwrap_or(0)).min(least_condition.unwrap_or(usize::MAX));
+
+    fn of<C>(call: &Call<C>) -> Row {
+        Row::new(call.name, call.numbers, call.breaches)
     }
-    text + &format!("fewest of what a call can give: {}\n", fewest)
+
+    pub fn add(&mut self, answer: &Answer) {
+        self.numbers.add(answer.number);
+        self.conditions.add(answer.breach.condition);
+    }
+
+    /// How often that came which came least, of what the call can give.
+    fn fewest(&self) -> usize {
+        let conditions: &[usize] = if self.breaches { &CONDITIONS } else { &[] };
+        let counts = [self.numbers.of(&self.possible), self.conditions.of(conditions)].concat();
+        counts.into_iter().min().unwrap_or(0)
+    }
+}
+
+fn line(name: &str, numbers: &[usize], conditions: &[usize], width: usize) -> String {
+    let cells = |counts: &[usize]| counts.iter().map(|n| format!("{:>width$}", n)).collect::<String>();
+    format!("{:<9}{} |{}\n", name, cells(numbers), cells(conditions))
+}
+
+/// A line for each row: how often each number came (before the bar) and each condition (after it).
+pub fn table_of(rows: &[Row], numbers: &[&[usize]]) -> String {
+    let numbers = numbers.concat();
+    let most = rows.iter().map(|row| row.numbers.most()).max().unwrap_or(0);
+    let width = (most.to_string().len() + 1).max(5);
+    let mut text = line("", &numbers, &CONDITIONS, width);
+    for row in rows {
+        text += &line(row.name, &row.numbers.of(&numbers), &row.conditions.of(&CONDITIONS), width);
+    }
+    text
+}
+
+/// What came of all calls.
+pub struct Counts(Vec<Row>);
+
+impl Counts {
+    pub fn new() -> Counts {
+        Counts(policy_case::CALLS.iter().map(Row::of).collect())
+    }
+
+    pub fn add(&mut self, name: &str, answer: &Answer) {
+        self.0.iter_mut().filter(|row| row.name == name).for_each(|row| row.add(answer));
+    }
+
+    /// How many answers were counted.
+    pub fn total(&self) -> usize {
+        self.0.iter().map(|row| row.numbers.total()).sum()
+    }
+
+    pub fn text(&self) -> String {
+        let fewest = self.0.iter().map(Row::fewest).min().unwrap_or(0);
+        table_of(&self.0, NUMBERS) + &format!("fewest of what a call can give: {}\n", fewest)
+    }
+}
+
+pub fn count(stream: &[u8]) -> String {
+    let mut counts = Counts::new();
+    for case in read_cases(stream) {
+        case.tell().iter().for_each(|(name, told)| counts.add(name, &told.answer));
+    }
+    counts.text()
 }

@@ -1,6 +1,7 @@
 // The program judge: what it finds in a file and what it prints.
 
 use crate::answers::{answer, breach_text, Answer};
+use crate::calls::{POLICY, TABLE};
 use crate::completing::complete;
 use crate::conditions::verdict;
 use crate::mending::mend;
@@ -54,7 +55,7 @@ pub fn judge(file: &[u8]) -> String {
 }
 
 /// What judge finds in a file: the verdict's answer, or the refusal of one that is too long.
-fn found(file: &[u8]) -> Answer {
+pub fn found(file: &[u8]) -> Answer {
     if file.len() > MOST_BYTES {
         return Answer { number: 2, ..Answer::default() };
     }
@@ -63,12 +64,12 @@ fn found(file: &[u8]) -> Answer {
 }
 
 /// The numbers that judge can find, in the order of the checks.
-pub const FOUND: [usize; 13] = [0, 1, 2, 3, 4, 5, 6, 7, 19, 8, 9, 10, 11];
+pub const FOUND: &[&[usize]] = &[TABLE, POLICY];
 
 /// What a file can come to, as number and condition: the refusals, clean, and the three conditions.
 pub fn outcomes() -> Vec<(usize, usize)> {
-    let refusals = FOUND[1..].iter().map(|&number| (number, 0));
-    refusals.chain((0..=3).map(|condition| (0, condition))).collect()
+    let refusals = FOUND.concat().into_iter().filter(|&number| number != 0);
+    refusals.map(|number| (number, 0)).chain((0..=3).map(|condition| (0, condition))).collect()
 }
 
 pub fn outcome(file: &[u8]) -> (usize, usize) {

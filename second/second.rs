@@ -2,19 +2,21 @@
 // It exists to be compared with the proved one: see README.md for its modes and its files.
 
 pub mod answers;
+pub mod calls;
 pub mod cases;
 pub mod completing;
 pub mod conditions;
-mod counting;
+pub mod counting;
 mod files;
 mod judge;
-mod making;
+pub mod making;
 pub mod mending;
+pub mod policy_case;
 mod self_check;
 mod stream;
 pub mod table;
 
-use cases::{answers, read_cases, Case};
+use cases::{answers, read_cases, write_cases, Case};
 use counting::count;
 use files::{count_files, reports};
 use judge::{judge, MOST_BYTES};
@@ -60,7 +62,7 @@ pub fn main() {
     let arguments: Vec<&str> = arguments.iter().map(String::as_str).collect();
     let output = match arguments[..] {
         ["judge"] => judge(&input()).into_bytes(),
-        ["cases", seed, count] => making::cases(number(seed), number(count) as usize),
+        ["cases", seed, count] => write_cases(making::cases(number(seed), number(count) as usize)),
         ["answers"] => answers(&input()).into_bytes(),
         ["count"] => count(&input()).into_bytes(),
         ["files", folder] => {

@@ -5,7 +5,6 @@ mod policies;
 mod samples;
 mod tables;
 
-use crate::counting::HIGHEST_NUMBER;
 use crate::fail;
 use crate::making::chance::Random;
 use policies::{
@@ -25,10 +24,8 @@ pub fn self_check(seed: u64, count: usize) -> String {
     self_named_tables();
     self_hierarchies();
     let mut r = Random(seed);
-    let mut numbers = [0; HIGHEST_NUMBER + 1];
-    for _ in 0..count {
-        numbers[self_descent(&small_schema(&mut r))] += 1;
-    }
+    let numbers: Vec<usize> = (0..count).map(|_| self_descent(&small_schema(&mut r))).collect();
+    let of = |wanted: usize| numbers.iter().filter(|&&number| number == wanted).count();
     let (mut clean, mut blanks) = (0, 0);
     for _ in 0..count {
         let (schema, table, marks) = small_policy(&mut r);
@@ -43,7 +40,7 @@ pub fn self_check(seed: u64, count: usize) -> String {
     }
     [
         format!("self: S1 to S10 in both numberings, the named tables, {} tables ", count),
-        format!("({} accepted, {} with number 8, {} with 19) ", numbers[0], numbers[8], numbers[19]),
+        format!("({} accepted, {} with number 8, {} with 19) ", of(0), of(8), of(19)),
         format!("and {} policies ({} clean, {} unset marks) hold\n", count, clean, blanks),
     ]
     .concat()

@@ -1,4 +1,4 @@
-// Runs of words and bytes in a stream.
+// Runs of words and bytes in a stream: a run is its length as four bytes, low byte first, and then its items.
 
 use crate::fail;
 
@@ -7,12 +7,21 @@ pub fn to_words(bytes: &[u8]) -> Vec<u16> {
 }
 
 pub fn to_bytes(words: &[u16]) -> Vec<u8> {
-    words.iter().flat_map(|word| word.to_le_bytes().to_vec()).collect()
+    words.iter().flat_map(|word| word.to_le_bytes()).collect()
 }
 
-pub fn put(stream: &mut Vec<u8>, length: usize, bytes: &[u8]) {
-    stream.extend(to_bytes(&[length as u16]));
-    stream.extend(bytes);
+fn put_length(stream: &mut Vec<u8>, length: usize) {
+    stream.extend((length as u32).to_le_bytes());
+}
+
+pub fn put_bytes(stream: &mut Vec<u8>, run: &[u8]) {
+    put_length(stream, run.len());
+    stream.extend(run);
+}
+
+pub fn put_words(stream: &mut Vec<u8>, run: &[u16]) {
+    put_length(stream, run.len());
+    stream.extend(to_bytes(run));
 }
 
 pub fn take<'a>(stream: &mut &'a [u8], size: usize) -> &'a [u8] {
@@ -24,7 +33,17 @@ pub fn take<'a>(stream: &mut &'a [u8], size: usize) -> &'a [u8] {
     taken
 }
 
-pub fn take_run<'a>(stream: &mut &'a [u8], unit: usize) -> &'a [u8] {
-    let length = to_words(take(stream, 2))[0] as usize;
-    take(stream, unit * length)
+fn take_length(stream: &mut &[u8]) -> usize {
+    let four = take(stream, 4);
+    u32::from_le_bytes([four[0], four[1], four[2], four[3]]) as usize
+}
+
+pub fn take_bytes<'a>(stream: &mut &'a [u8]) -> &'a [u8] {
+    let length = take_length(stream);
+    take(stream, length)
+}
+
+pub fn take_words(stream: &mut &[u8]) -> Vec<u16> {
+    let length = take_length(stream);
+    to_words(take(stream, 2 * length))
 }

@@ -1,6 +1,6 @@
 /*
- * Makes the five calls on a stream of cases and prints what each answers (second/README.md has the form of both). Numbers, conditions and
- * marks are printed by the header's names for them, so that each name is held to its value.
+ * Makes the calls on a stream of cases and prints a line for each (second/README.md has the form of both). Numbers, conditions and marks
+ * are printed by the header's names for them, so that each name is held to its value.
  */
 #include <stdio.h>
 #include <stdlib.h>
@@ -9,9 +9,6 @@
 #include "finnedscarf.h"
 
 enum { MOST = 65536 };
-
-static uint16_t words[MOST];
-static uint8_t marks[MOST], lent[MOST], proposed[MOST], out[MOST];
 
 static const char *number_text(size_t number)
 {
@@ -74,9 +71,19 @@ static uint16_t next_word(void)
     return (uint16_t)(low + 256 * next_byte());
 }
 
+/* The length of a run; one that is longer than MOST is an error. */
+static size_t next_length(void)
+{
+    size_t low = next_word();
+    size_t length = low + 65536 * (size_t)next_word();
+    if (length > MOST)
+        exit(2);
+    return length;
+}
+
 static size_t read_words(uint16_t *run)
 {
-    size_t length = next_word();
+    size_t length = next_length();
     for (size_t k = 0; k < length; k++)
         run[k] = next_word();
     return length;
@@ -84,7 +91,7 @@ static size_t read_words(uint16_t *run)
 
 static size_t read_bytes(uint8_t *run)
 {
-    size_t length = next_word();
+    size_t length = next_length();
     for (size_t k = 0; k < length; k++)
         run[k] = next_byte();
     return length;
@@ -94,15 +101,6 @@ static int more(void)
 {
     int byte = getchar();
     return byte != EOF && ungetc(byte, stdin) == byte;
-}
-
-static void put_checked(size_t number, finnedscarf_outcome o)
-{
-    if (o.count || o.condition || o.type || o.i || o.j || o.privilege) {
-        fprintf(stderr, "case %zu: checking a table answers more than a number and a place\n", number);
-        exit(1);
-    }
-    printf("%zu check %s %zu\n", number, number_text(o.number), o.place);
 }
 
 static void put_outcome(size_t number, const char *call, finnedscarf_outcome o)
@@ -118,31 +116,47 @@ static void put_run(const uint8_t *run, size_t length)
         put_mark(run[k]);
 }
 
+/* The line of a call that only reads. */
+static void put_line(size_t number, const char *call, finnedscarf_outcome o)
+{
+    put_outcome(number, call, o);
+    putchar('\n');
+}
+
+/* The line of a call that may write a result. */
+static void put_written(size_t number, const char *call, finnedscarf_outcome o, const uint8_t *out, size_t length)
+{
+    put_outcome(number, call, o);
+    put_run(out, length);
+    putchar('\n');
+}
+
+/* The calls on a case of kind 0. Each that may write the result starts from it as it was lent. */
+static void run_policy(size_t number)
+{
+    static uint16_t words[MOST];
+    static uint8_t marks[MOST], lent[MOST], proposed[MOST], out[MOST];
+    size_t w = read_words(words);
+    size_t m = read_bytes(marks);
+    size_t n = read_bytes(lent);
+    size_t p = read_bytes(proposed);
+
+    put_line(number, "check", finnedscarf_check_table(words, w));
+    put_line(number, "verdict", finnedscarf_judge_policy(words, w, marks, m));
+    memcpy(out, lent, n);
+    put_written(number, "complete", finnedscarf_complete(words, w, marks, m, out, n), out, n);
+    memcpy(out, lent, n);
+    put_written(number, "mend", finnedscarf_mend(words, w, marks, m, out, n), out, n);
+    put_line(number, "propose", finnedscarf_judge_mend(words, w, marks, m, proposed, p));
+}
+
 int main(void)
 {
     for (size_t number = 0; more(); number++) {
-        size_t words_length = read_words(words);
-        size_t marks_length = read_bytes(marks);
-        size_t out_length = read_bytes(lent);
-        size_t proposed_length = read_bytes(proposed);
-
-        put_checked(number, finnedscarf_check_table(words, words_length));
-
-        put_outcome(number, "verdict", finnedscarf_judge_policy(words, words_length, marks, marks_length));
-        putchar('\n');
-
-        memcpy(out, lent, out_length);
-        put_outcome(number, "complete", finnedscarf_complete(words, words_length, marks, marks_length, out, out_length));
-        put_run(out, out_length);
-        putchar('\n');
-
-        memcpy(out, lent, out_length);
-        put_outcome(number, "mend", finnedscarf_mend(words, words_length, marks, marks_length, out, out_length));
-        put_run(out, out_length);
-        putchar('\n');
-
-        put_outcome(number, "propose", finnedscarf_judge_mend(words, words_length, marks, marks_length, proposed, proposed_length));
-        putchar('\n');
+        switch (next_byte()) {
+        case 0: run_policy(number); break;
+        default: exit(2);
+        }
     }
     return 0;
 }

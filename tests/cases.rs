@@ -1,4 +1,4 @@
-//! Makes the five calls on a stream of cases through the safe wrapper and prints what each answers (second/README.md has the form of both).
+//! Makes the calls on a stream of cases through the safe wrapper and prints a line for each (second/README.md has the form of both).
 //! Conditions and marks are printed by the wrapper's names for them, so that each name is held to its value.
 
 use finnedscarf::{check_table, complete, judge_mend, judge_policy, mend, Breach, Condition, Refusal, ALLOWED, FORBIDDEN, UNSET};
@@ -7,6 +7,10 @@ use std::io::{self, BufWriter, Read, Write};
 struct Stream(Vec<u8>, usize);
 
 impl Stream {
+    fn is_at_end(&self) -> bool {
+        self.1 == self.0.len()
+    }
+
     fn byte(&mut self) -> u8 {
         self.1 += 1;
         self.0[self.1 - 1]
@@ -16,12 +20,16 @@ impl Stream {
         u16::from_le_bytes([self.byte(), self.byte()])
     }
 
+    fn length(&mut self) -> u32 {
+        u32::from_le_bytes([self.byte(), self.byte(), self.byte(), self.byte()])
+    }
+
     fn words(&mut self) -> Vec<u16> {
-        (0..self.word()).map(|_| self.word()).collect()
+        (0..self.length()).map(|_| self.word()).collect()
     }
 
     fn bytes(&mut self) -> Vec<u8> {
-        (0..self.word()).map(|_| self.byte()).collect()
+        (0..self.length()).map(|_| self.byte()).collect()
     }
 }
 
@@ -38,19 +46,18 @@ fn breach_text(breach: Option<Breach>) -> String {
     format!("{number} {element} {i} {j} {privilege}")
 }
 
-/// The eight numbers of an answer. A done one has place 0.
-fn answer_text(answer: Result<(usize, Option<Breach>), Refusal>) -> String {
-    match answer {
-        Ok((count, breach)) => format!("0 0 {count} {}", breach_text(breach)),
-        Err(Refusal { number, place, breach }) => format!("{number} {place} 0 {}", breach_text(breach)),
-    }
+/// What a done call tells; what it has no word for is 0.
+#[derive(Default)]
+struct Done {
+    place: usize,
+    count: usize,
+    breach: Option<Breach>,
 }
 
-fn check_text(answer: Result<usize, Refusal>) -> String {
+fn answer_text(answer: Result<Done, Refusal>) -> String {
     match answer {
-        Ok(v) => format!("0 {v}"),
-        Err(Refusal { number, place, breach: None }) => format!("{number} {place}"),
-        Err(refusal) => panic!("checking a table told a breach: {refusal}"),
+        Ok(Done { place, count, breach }) => format!("0 {place} {count} {}", breach_text(breach)),
+        Err(Refusal { number, place, breach }) => format!("{number} {place} 0 {}", breach_text(breach)),
     }
 }
 
@@ -64,32 +71,49 @@ fn run_text(run: &[u8]) -> String {
     run.iter().map(mark).collect()
 }
 
+/// The line of a call that only reads, behind the case's number.
+fn line(call: &str, answer: Result<Done, Refusal>) -> String {
+    format!("{call} {}", answer_text(answer))
+}
+
+/// The line of a call that may write the result, of which it gets its own copy.
+fn written(call: &str, lent: &[u8], make: impl Fn(&mut [u8]) -> Result<Done, Refusal>) -> String {
+    let mut out = lent.to_vec();
+    line(call, make(&mut out)) + " " + &run_text(&out)
+}
+
+fn counted(count: usize) -> Done {
+    Done { count, ..Done::default() }
+}
+
+/// The calls on a case of kind 0.
+fn policy_lines(stream: &mut Stream) -> Vec<String> {
+    let words = stream.words();
+    let marks = stream.bytes();
+    let lent = stream.bytes();
+    let proposed = stream.bytes();
+    vec![
+        line("check", check_table(&words).map(|place| Done { place, ..Done::default() })),
+        line("verdict", judge_policy(&words, &marks).map(|breach| Done { breach, ..Done::default() })),
+        written("complete", &lent, |out| complete(&words, &marks, out).map(|()| Done::default())),
+        written("mend", &lent, |out| mend(&words, &marks, out).map(counted)),
+        line("propose", judge_mend(&words, &marks, &proposed).map(counted)),
+    ]
+}
+
 fn main() -> io::Result<()> {
     let mut stream = Stream(Vec::new(), 0);
     io::stdin().read_to_end(&mut stream.0)?;
     let mut to = BufWriter::new(io::stdout().lock());
     let mut case = 0;
-    while stream.1 < stream.0.len() {
-        let words = stream.words();
-        let marks = stream.bytes();
-        let lent = stream.bytes();
-        let proposed = stream.bytes();
-
-        writeln!(to, "{case} check {}", check_text(check_table(&words)))?;
-
-        let verdict = judge_policy(&words, &marks).map(|breach| (0, breach));
-        writeln!(to, "{case} verdict {}", answer_text(verdict))?;
-
-        let mut out = lent.clone();
-        let completed = complete(&words, &marks, &mut out).map(|()| (0, None));
-        writeln!(to, "{case} complete {} {}", answer_text(completed), run_text(&out))?;
-
-        let mut out = lent;
-        let mended = mend(&words, &marks, &mut out).map(|count| (count, None));
-        writeln!(to, "{case} mend {} {}", answer_text(mended), run_text(&out))?;
-
-        let judged = judge_mend(&words, &marks, &proposed).map(|count| (count, None));
-        writeln!(to, "{case} propose {}", answer_text(judged))?;
+    while !stream.is_at_end() {
+        let lines = match stream.byte() {
+            0 => policy_lines(&mut stream),
+            kind => panic!("there is no kind {kind}"),
+        };
+        for line in lines {
+            writeln!(to, "{case} {line}")?;
+        }
         case += 1;
     }
     to.flush()

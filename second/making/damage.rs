@@ -4,8 +4,9 @@ use super::chance::Random;
 use super::cycles::{closed, unsound, uprooted};
 use super::schemas::{encode, entries_before, numbered, Schema};
 use super::shapes::{dress, dress_as, fill, full_ladder, grown_to, ladder, Lists};
-use crate::cases::Case;
+
 use crate::judge::MOST_BYTES;
+use crate::policy_case::PolicyCase;
 use crate::table::{
     Type, CHOICE, EMPTY, HEADER, MOST_CHILDREN, MOST_ENTRIES, MOST_PRIVILEGES, MOST_TYPES, RECORD, STAR,
     UNSET,
@@ -174,7 +175,7 @@ fn unsound_words(r: &mut Random, schema: &Schema) -> Vec<u16> {
     words
 }
 
-fn spoil_table(r: &mut Random, schema: &Schema, case: &mut Case) {
+fn spoil_table(r: &mut Random, schema: &Schema, case: &mut PolicyCase) {
     if r.below(5) < 2 {
         case.words = unsound_words(r, schema);
         return;
@@ -203,12 +204,12 @@ fn spoil_marks(r: &mut Random, marks: &mut Vec<u8>) {
 }
 
 /// Marks so many that the file for judge is as long as it may be, or one byte longer.
-fn spoil_file(r: &mut Random, case: &mut Case) {
+fn spoil_file(r: &mut Random, case: &mut PolicyCase) {
     let length = MOST_BYTES + r.below(2) - 2 * case.words.len();
     case.marks.resize(length, UNSET);
 }
 
-pub fn spoil(r: &mut Random, schema: &Schema, case: &mut Case) {
+pub fn spoil(r: &mut Random, schema: &Schema, case: &mut PolicyCase) {
     if r.one_in(600) {
         return spoil_file(r, case);
     }

@@ -5,7 +5,7 @@ use super::chance::Random;
 use super::schemas::numbered;
 use super::shapes::{full_ladder, large, long_chain, usual_shape};
 use crate::judge::{outcome, outcomes, MOST_BYTES};
-use crate::stream::{put, to_words};
+use crate::stream::{put_bytes, to_words};
 use crate::table::{Type, EMPTY, HEADER, MOST_PRIVILEGES, SEQUENCE};
 
 /// Cuts a file: anywhere, in or near the header, or nearly whole.
@@ -105,7 +105,7 @@ pub fn random(seed: u64, count: usize, named: &[Vec<u8>]) -> Vec<u8> {
     let mut r = Random(seed);
     let mut stream = Vec::new();
     for file in named {
-        put(&mut stream, file.len(), file);
+        put_bytes(&mut stream, file);
     }
     let outcomes = outcomes();
     for k in 0..count {
@@ -113,7 +113,7 @@ pub fn random(seed: u64, count: usize, named: &[Vec<u8>]) -> Vec<u8> {
             0 => any_file(&mut r),
             _ => file_with(&mut r, outcomes[k / 2 % outcomes.len()]),
         };
-        put(&mut stream, file.len(), &file);
+        put_bytes(&mut stream, &file);
     }
     stream
 }

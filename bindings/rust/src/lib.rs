@@ -18,6 +18,9 @@
 //! To link it, `rt staticlib store` makes `target/staticlib/libstore.a` (x86-64 Linux). Cargo finds it there, or in the folder that the
 //! variable `FINNEDSCARF_LIB` names; for rustc it is `-L native=target/staticlib` where this crate is compiled.
 
+mod border;
+
+use border::Outcome;
 use std::error::Error;
 use std::fmt;
 
@@ -126,55 +129,30 @@ impl Error for Refusal {}
 
 /// Checks a table, and gives its number of privileges V. Refused with 1 to 9 and 19.
 pub fn check_table(words: &[u16]) -> Result<usize, Refusal> {
-    // SAFETY: a pointer and its length, lent for the call; so in each call below, where the borrows keep `out` apart from the rest.
-    let outcome = unsafe { finnedscarf_check_table(words.as_ptr(), words.len()) };
-    outcome.done().map(|done| done.place)
+    border::check_table(words).done().map(|done| done.place)
 }
 
 /// Judges a policy, and gives its first breach, or `None` if it is clean. Refused with 1 to 11 and 19.
 pub fn judge_policy(words: &[u16], marks: &[u8]) -> Result<Option<Breach>, Refusal> {
-    let outcome = unsafe { finnedscarf_judge_policy(words.as_ptr(), words.len(), marks.as_ptr(), marks.len()) };
-    outcome.done().map(|done| done.breach())
+    border::judge_policy(words, marks).done().map(|done| done.breach())
 }
 
 /// Completes a policy: writes the least fully decided policy that keeps every set mark and is clean into the first V bytes of `out`, whose
 /// rest is kept. Refused with 1 to 12 and 19, and with 16 if there is none.
 pub fn complete(words: &[u16], marks: &[u8], out: &mut [u8]) -> Result<(), Refusal> {
-    let outcome = unsafe {
-        finnedscarf_complete(words.as_ptr(), words.len(), marks.as_ptr(), marks.len(), out.as_mut_ptr(), out.len())
-    };
-    outcome.done().map(|_| ())
+    border::complete(words, marks, out).done().map(|_| ())
 }
 
 /// Mends a policy by the rule that the header states: writes a clean one into the first V bytes of `out`, whose rest is kept, and gives the
 /// number of marks that went from allowed to forbidden; all others are equal. Refused with 1 to 12 and 19.
 pub fn mend(words: &[u16], marks: &[u8], out: &mut [u8]) -> Result<usize, Refusal> {
-    let outcome = unsafe {
-        finnedscarf_mend(words.as_ptr(), words.len(), marks.as_ptr(), marks.len(), out.as_mut_ptr(), out.len())
-    };
-    outcome.done().map(|done| done.count)
+    border::mend(words, marks, out).done().map(|done| done.count)
 }
 
 /// Judges a proposed mend, and gives the number of changed marks: accepted if each mark is equal or went from allowed to forbidden and the
 /// proposed policy is clean. Refused with 1 to 11, 13 to 16 and 19.
 pub fn judge_mend(words: &[u16], marks: &[u8], proposed: &[u8]) -> Result<usize, Refusal> {
-    let outcome = unsafe {
-        finnedscarf_judge_mend(words.as_ptr(), words.len(), marks.as_ptr(), marks.len(), proposed.as_ptr(), proposed.len())
-    };
-    outcome.done().map(|done| done.count)
-}
-
-/// What crosses the border; fields in the order of crates/store.
-#[repr(C)]
-struct Outcome {
-    number: usize,
-    place: usize,
-    count: usize,
-    condition: usize,
-    element: usize,
-    i: usize,
-    j: usize,
-    privilege: usize,
+    border::judge_mend(words, marks, proposed).done().map(|done| done.count)
 }
 
 impl Outcome {
@@ -195,34 +173,4 @@ impl Outcome {
             number => Err(Refusal { number, place: self.place, breach: self.breach() }),
         }
     }
-}
-
-#[link(name = "store", kind = "static")]
-extern "C" {
-    fn finnedscarf_check_table(words: *const u16, words_length: usize) -> Outcome;
-    fn finnedscarf_judge_policy(words: *const u16, words_length: usize, marks: *const u8, marks_length: usize) -> Outcome;
-    fn finnedscarf_complete(
-        words: *const u16,
-        words_length: usize,
-        marks: *const u8,
-        marks_length: usize,
-        out: *mut u8,
-        out_length: usize,
-    ) -> Outcome;
-    fn finnedscarf_mend(
-        words: *const u16,
-        words_length: usize,
-        marks: *const u8,
-        marks_length: usize,
-        out: *mut u8,
-        out_length: usize,
-    ) -> Outcome;
-    fn finnedscarf_judge_mend(
-        words: *const u16,
-        words_length: usize,
-        marks: *const u8,
-        marks_length: usize,
-        proposed: *const u8,
-        proposed_length: usize,
-    ) -> Outcome;
 }

@@ -1,16 +1,20 @@
-// Runs the five calls on a stream of cases and prints each answer, and each lent result afterwards. second/README.md has the form of both.
+// Makes the calls on a stream of cases and prints a line for each: its answer, and each run that it may write. second/README.md has the form of both.
+ghost use Prim.Native.Nat.{_≤_};
+ghost use lib.ListN.{length};
 use completion::complete;
 use mending::judge_mend;
 use mending::mend;
+use stream::next_kind;
 use stream::next_length;
-use stream::next_word;
 use stream::read_bytes;
 use stream::read_words;
 use table::Found;
 use table::check_table;
+use table::words::lesser;
 use verdict::Answer;
 use verdict::judge_policy;
 use verdict::number_of;
+use verdict::refused;
 
 fn put(n: usize) {
     io::write_all(1, b" ");
@@ -44,54 +48,91 @@ fn put_run(run: &[u8]) {
         put_byte(run[k]);
         k += 1;
     }
+}
+
+// The line of a call that only reads.
+fn put_line(case: usize, call: &[u8], answer: Answer) {
+    put_answer(case, call, answer);
     io::write_all(1, b"\n");
 }
 
-fn put_judged(case: usize, words: &[u16], marks: &[u8]) {
-    let checked = check_table(words);
-    io::print_decimal(1, case as u64);
-    io::write_all(1, b" check");
-    put(checked.number as usize);
-    put(checked.place);
+// The line of a call that may write a result.
+fn put_written(case: usize, call: &[u8], answer: Answer, out: &[u8]) {
+    put_answer(case, call, answer);
+    put_run(out);
     io::write_all(1, b"\n");
-    put_answer(case, b" verdict", judge_policy(words, marks));
-    io::write_all(1, b"\n");
+}
+
+fn checked(words: &[u16]) -> Answer {
+    let told = check_table(words);
+    refused(told.number, told.place)
+}
+
+// Copies the result as it was lent, or as much of it as there is room for.
+fn lend(lent: &[u8], out: &mut [u8]) -> usize
+    ensures { λ r. ⌜ r ≤ length (now (out .exit)) ⌝ }
+{
+    let n = lesser(lent.len(), out.len());
+    let mut k = 0;
+    while k < n {
+        out[k] = lent[k];
+        k += 1;
+    }
+    n
 }
 
 fn put_completed(case: usize, words: &[u16], marks: &[u8], out: &mut [u8]) {
-    put_answer(case, b" complete", complete(words, marks, out));
-    put_run(out);
+    let answer = complete(words, marks, out);
+    put_written(case, b" complete", answer, out);
 }
 
 fn put_mended(case: usize, words: &[u16], marks: &[u8], out: &mut [u8]) {
-    put_answer(case, b" mend", mend(words, marks, out));
-    put_run(out);
+    let answer = mend(words, marks, out);
+    put_written(case, b" mend", answer, out);
 }
 
-fn put_proposed(case: usize, words: &[u16], marks: &[u8], proposed: &[u8]) {
-    put_answer(case, b" propose", judge_mend(words, marks, proposed));
-    io::write_all(1, b"\n");
+// The calls on a case of kind 0. Each that may write the result gets its own copy of it.
+fn put_policy(case: usize, words: &[u16], marks: &[u8], lent: &[u8], proposed: &[u8]) {
+    put_line(case, b" check", checked(words));
+    put_line(case, b" verdict", judge_policy(words, marks));
+    let mut completed = [0u8; 8192];
+    let c = lend(lent, &mut completed);
+    put_completed(case, words, marks, &mut completed[0..c]);
+    let mut mended = [0u8; 8192];
+    let m = lend(lent, &mut mended);
+    put_mended(case, words, marks, &mut mended[0..m]);
+    put_line(case, b" propose", judge_mend(words, marks, proposed));
 }
 
-// Makes the five calls on the next case, if there is one; those that write a result, each on its own copy of it.
+// Kind 0: a table, marks, a result as lent, proposed marks.
+fn run_policy(case: usize) {
+    let mut words = [0u16; 4096];
+    let w = read_words(next_length(), &mut words);
+    let mut marks = [0u8; 8192];
+    let m = read_bytes(next_length(), &mut marks);
+    let mut lent = [0u8; 8192];
+    let n = read_bytes(next_length(), &mut lent);
+    let mut proposed = [0u8; 8192];
+    let p = read_bytes(next_length(), &mut proposed);
+    put_policy(
+        case,
+        &words[0..w],
+        &marks[0..m],
+        &lent[0..n],
+        &proposed[0..p],
+    );
+}
+
+// Makes the calls on the next case, if there is one of a known kind.
 fn run_case(case: usize) -> bool {
-    let length = next_length();
-    let Found::At(count) = length else {
+    let found = next_kind();
+    let Found::At(kind) = found else {
         return false;
     };
-    let mut words = [0u16; 4096];
-    let w = read_words(count, &mut words);
-    let mut marks = [0u8; 8192];
-    let m = read_bytes(next_word() as usize, &mut marks);
-    let mut out = [0u8; 8192];
-    let o = read_bytes(next_word() as usize, &mut out);
-    let mut again = out;
-    let mut proposed = [0u8; 8192];
-    let p = read_bytes(next_word() as usize, &mut proposed);
-    put_judged(case, &words[0..w], &marks[0..m]);
-    put_completed(case, &words[0..w], &marks[0..m], &mut out[0..o]);
-    put_mended(case, &words[0..w], &marks[0..m], &mut again[0..o]);
-    put_proposed(case, &words[0..w], &marks[0..m], &proposed[0..p]);
+    match kind {
+        0 => run_policy(case),
+        _ => return false,
+    }
     true
 }
 

@@ -1,6 +1,6 @@
 // Reports on each file of a stream, as the program judge does on one: second/README.md has the stream's form.
 use report::report;
-use stream::next_length;
+use stream::next_run;
 use stream::read_bytes;
 use table::Found;
 
@@ -13,7 +13,7 @@ fn print_report(file: &[u8]) {
 
 // Reports on the next file, if there is one.
 fn run_file() -> bool {
-    let length = next_length();
+    let length = next_run();
     let Found::At(count) = length else {
         return false;
     };

@@ -4,18 +4,43 @@ ghost use lib.ListN.{length};
 use table::Found;
 use table::words::lesser;
 
+fn wide(byte: u8) -> usize {
+    byte as usize
+}
+
 fn joined(low: u8, high: u8) -> u16 {
     (low as u16) + 256 * (high as u16)
 }
 
-// The next two bytes, low byte first, or nothing at the end.
-pub fn next_length() -> Found {
-    let mut pair = [0u8; 2];
-    if io::read_full(0, &mut pair) < 2 {
+fn length_of(low: u16, high: u16) -> usize {
+    (low as usize) + 65536 * (high as usize)
+}
+
+// The kind of the next case, or nothing at the end.
+pub fn next_kind() -> Found {
+    let mut one = [0u8; 1];
+    if io::read_full(0, &mut one) < 1 {
         return Found::Nothing;
     }
-    let length = joined(pair[0], pair[1]);
-    Found::At(length as usize)
+    Found::At(wide(one[0]))
+}
+
+// The length of the next run, or nothing at the end.
+pub fn next_run() -> Found {
+    let mut four = [0u8; 4];
+    if io::read_full(0, &mut four) < 4 {
+        return Found::Nothing;
+    }
+    Found::At(length_of(joined(four[0], four[1]), joined(four[2], four[3])))
+}
+
+// The length of the next run, 0 at the end.
+pub fn next_length() -> usize {
+    let run = next_run();
+    match run {
+        Found::At(length) => length,
+        Found::Nothing => 0,
+    }
 }
 
 fn next_byte() -> u8 {
@@ -25,7 +50,7 @@ fn next_byte() -> u8 {
 }
 
 // The next word, low byte first.
-pub fn next_word() -> u16 {
+fn next_word() -> u16 {
     let low = next_byte();
     joined(low, next_byte())
 }

@@ -6,10 +6,10 @@ use Rattle.cases.proofs.put_run.Statement.{statement}
 use Rattle.cases.proofs.put_run.Tie as tie
 
 abbrev Inv-loop : tie.InvT-loop
-Inv-loop run k₀ t4 k = k ≤ length run
+Inv-loop run k₀ k = k ≤ length run
 
 abbrev μ-loop : tie.MeasureT-loop
-μ-loop run k₀ t4 k = length run - k
+μ-loop run k₀ k = length run - k
 
 slice-aggregate-write-all : tie.Need-slice-aggregate-write-all Inv-loop μ-loop
 slice-aggregate-write-all c = search needs
@@ -35,12 +35,6 @@ loop-less c = search needs
 loop-again : tie.Need-loop-again Inv-loop μ-loop
 loop-again c = search needs
 
-slice-aggregate-write-all-2 : tie.Need-slice-aggregate-write-all-2 Inv-loop μ-loop
-slice-aggregate-write-all-2 c = search needs
-
-write-all-requires-2 : tie.Need-write-all-requires-2 Inv-loop μ-loop
-write-all-requires-2 c κs = search needs
-
 returns : tie.Need-returns Inv-loop μ-loop
 returns c = search needs
 
@@ -58,6 +52,4 @@ put-run-spec =
     add-k
     loop-less
     loop-again
-    slice-aggregate-write-all-2
-    write-all-requires-2
     returns)

@@ -1,0 +1,70 @@
+//! The exported functions of crate store, on slices, with their answers as they cross the border. The benchmark and second/soak.rs take this
+//! file as it is.
+
+/// An answer as eight numbers, in the order of crates/store.
+#[repr(C)]
+#[derive(Clone, Copy, Debug, Default, PartialEq)]
+pub struct Outcome {
+    pub number: usize,
+    pub place: usize,
+    pub count: usize,
+    pub condition: usize,
+    pub element: usize,
+    pub i: usize,
+    pub j: usize,
+    pub privilege: usize,
+}
+
+// SAFETY of each call: a pointer and its length, from one slice that lives through the call; the borrows keep `out` apart from the rest.
+
+pub fn check_table(words: &[u16]) -> Outcome {
+    unsafe { finnedscarf_check_table(words.as_ptr(), words.len()) }
+}
+
+pub fn judge_policy(words: &[u16], marks: &[u8]) -> Outcome {
+    unsafe { finnedscarf_judge_policy(words.as_ptr(), words.len(), marks.as_ptr(), marks.len()) }
+}
+
+pub fn complete(words: &[u16], marks: &[u8], out: &mut [u8]) -> Outcome {
+    unsafe { finnedscarf_complete(words.as_ptr(), words.len(), marks.as_ptr(), marks.len(), out.as_mut_ptr(), out.len()) }
+}
+
+pub fn mend(words: &[u16], marks: &[u8], out: &mut [u8]) -> Outcome {
+    unsafe { finnedscarf_mend(words.as_ptr(), words.len(), marks.as_ptr(), marks.len(), out.as_mut_ptr(), out.len()) }
+}
+
+pub fn judge_mend(words: &[u16], marks: &[u8], proposed: &[u8]) -> Outcome {
+    unsafe {
+        finnedscarf_judge_mend(words.as_ptr(), words.len(), marks.as_ptr(), marks.len(), proposed.as_ptr(), proposed.len())
+    }
+}
+
+#[link(name = "store", kind = "static")]
+extern "C" {
+    fn finnedscarf_check_table(words: *const u16, words_length: usize) -> Outcome;
+    fn finnedscarf_judge_policy(words: *const u16, words_length: usize, marks: *const u8, marks_length: usize) -> Outcome;
+    fn finnedscarf_complete(
+        words: *const u16,
+        words_length: usize,
+        marks: *const u8,
+        marks_length: usize,
+        out: *mut u8,
+        out_length: usize,
+    ) -> Outcome;
+    fn finnedscarf_mend(
+        words: *const u16,
+        words_length: usize,
+        marks: *const u8,
+        marks_length: usize,
+        out: *mut u8,
+        out_length: usize,
+    ) -> Outcome;
+    fn finnedscarf_judge_mend(
+        words: *const u16,
+        words_length: usize,
+        marks: *const u8,
+        marks_length: usize,
+        proposed: *const u8,
+        proposed_length: usize,
+    ) -> Outcome;
+}

@@ -1,0 +1,46 @@
+// What every call on cases has: a name, the numbers that it can give, how it is made, and what it tells.
+
+use crate::answers::{answer, answer_text, Answer, Outcome};
+
+/// The numbers of the table's checks in their order, done among them.
+pub const TABLE: &[usize] = &[0, 1, 2, 3, 4, 5, 6, 7, 19, 8, 9];
+
+/// The numbers of the policy's own checks.
+pub const POLICY: &[usize] = &[10, 11];
+
+/// A call on cases of one kind.
+pub struct Call<C: 'static> {
+    pub name: &'static str,
+    /// The numbers that it can give.
+    pub numbers: &'static [&'static [usize]],
+    /// Whether its answer can hold a breach.
+    pub breaches: bool,
+    pub make: fn(&C) -> Told,
+}
+
+/// A call's answer, and each run that it may write, as it is afterwards.
+#[derive(PartialEq)]
+pub struct Told {
+    pub answer: Answer,
+    pub written: Vec<Vec<u8>>,
+}
+
+impl Told {
+    pub fn reading(outcome: Outcome) -> Told {
+        Told::writing(outcome, Vec::new())
+    }
+
+    pub fn writing(outcome: Outcome, written: Vec<Vec<u8>>) -> Told {
+        Told { answer: answer(outcome), written }
+    }
+
+    /// The eight numbers of the answer, and each run, two hexadecimal digits a byte.
+    pub fn text(&self) -> String {
+        let run = |bytes: &Vec<u8>| format!(" {}", hex(bytes));
+        answer_text(&self.answer) + &self.written.iter().map(run).collect::<String>()
+    }
+}
+
+fn hex(bytes: &[u8]) -> String {
+    bytes.iter().map(|byte| format!("{:02x}", byte)).collect()
+}
