@@ -1,5 +1,6 @@
 // Files for judge as a stream: what judge prints for each, and how often it found what.
 
+use crate::answers::Answer;
 use crate::counting::{table_of, Row};
 use crate::judge::{found, judge, outcome, outcomes, FOUND, MOST_BYTES};
 use crate::stream::take_bytes;
@@ -20,8 +21,9 @@ pub fn reports(stream: &[u8]) -> String {
 pub fn count_files(stream: &[u8]) -> String {
     let files = read_files(stream);
     let mut judged = Row::new("judge", FOUND, true);
-    files.iter().for_each(|file| judged.add(&found(file)));
-    let of = |wanted: &(usize, usize)| files.iter().filter(|file| outcome(file) == *wanted).count();
+    let all: Vec<Answer> = files.iter().map(|file| found(file)).collect();
+    all.iter().for_each(|answer| judged.add(answer));
+    let of = |wanted: &(usize, usize)| all.iter().filter(|answer| outcome(answer) == *wanted).count();
     let fewest = outcomes().iter().map(of).min().unwrap_or(0);
     let bytes: usize = files.iter().map(|file| file.len()).sum();
     let longest = files.iter().map(|file| file.len()).max().unwrap_or(0);

@@ -72,7 +72,7 @@ pub fn outcomes() -> Vec<(usize, usize)> {
     refusals.map(|number| (number, 0)).chain((0..=3).map(|condition| (0, condition))).collect()
 }
 
-pub fn outcome(file: &[u8]) -> (usize, usize) {
-    let Answer { number, breach, .. } = found(file);
-    (number, breach.condition)
+/// What a file came to, by what was found in it.
+pub fn outcome(found: &Answer) -> (usize, usize) {
+    (found.number, found.breach.condition)
 }

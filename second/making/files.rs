@@ -4,7 +4,7 @@ use super::case_of;
 use super::chance::Random;
 use super::schemas::numbered;
 use super::shapes::{full_ladder, large, long_chain, usual_shape};
-use crate::judge::{outcome, outcomes, MOST_BYTES};
+use crate::judge::{found, outcome, outcomes, MOST_BYTES};
 use crate::stream::{put_bytes, to_words};
 use crate::table::{Type, EMPTY, HEADER, MOST_PRIVILEGES, SEQUENCE};
 
@@ -94,7 +94,7 @@ fn file_with(r: &mut Random, wanted: (usize, usize)) -> Vec<u8> {
     loop {
         let types = usual_shape(r);
         let file = file_of(r, types);
-        if outcome(&file) == wanted {
+        if outcome(&found(&file)) == wanted {
             return file;
         }
     }

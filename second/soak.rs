@@ -1,0 +1,98 @@
+// Holds the exported library to the second program on fresh cases: each call, all numbers of its answer, and every lent run afterwards.
+// second/soak builds it and runs it with SEED, COUNT and the folder where a case that differs is kept.
+
+#[path = "../bindings/rust/src/border.rs"]
+mod border;
+
+use second::answers::{Answer, Breach, Outcome};
+use second::calls::{Call, Told};
+use second::cases::{write_cases, Case};
+use second::counting::Counts;
+use second::making;
+use second::policy_case::{self, PolicyCase};
+use std::hint::black_box;
+
+fn outcome_of(told: border::Outcome) -> Outcome {
+    let border::Outcome { number, place, count, condition, element, i, j, privilege } = told;
+    let breach = Breach { condition, of: element, i, j, privilege };
+    let answer = Answer { number, place, count, breach };
+    if number == 0 {
+        Ok(answer)
+    } else {
+        Err(answer)
+    }
+}
+
+/// The library's calls on cases of kind 0, in the order of the second program's.
+const POLICY: [fn(&PolicyCase) -> Told; policy_case::CALLS.len()] = [
+    |case| Told::reading(outcome_of(border::check_table(&case.words))),
+    |case| Told::reading(outcome_of(border::judge_policy(&case.words, &case.marks))),
+    |case| case.writing(|words, marks, out| outcome_of(border::complete(words, marks, out))),
+    |case| case.writing(|words, marks, out| outcome_of(border::mend(words, marks, out))),
+    |case| Told::reading(outcome_of(border::judge_mend(&case.words, &case.marks, &case.proposed))),
+];
+
+/// Makes each call on a case by both and counts the answers, up to the first difference.
+fn compare<C: Clone + PartialEq>(
+    calls: &[Call<C>],
+    of_library: &[fn(&C) -> Told],
+    case: &C,
+    counts: &mut Counts,
+) -> Result<(), String> {
+    for (call, make) in calls.iter().zip(of_library) {
+        let mut lent = case.clone();
+        let (second, library) = ((call.make)(case), make(&lent));
+        if library != second {
+            return Err(format!("{}\nlibrary {}\nsecond  {}", call.name, library.text(), second.text()));
+        }
+        if *black_box(&mut lent) != *case {
+            return Err(format!("{}: the library changed a run that it only reads", call.name));
+        }
+        counts.add(call.name, &second.answer);
+    }
+    Ok(())
+}
+
+fn compare_case(case: &Case, counts: &mut Counts) -> Result<(), String> {
+    match case {
+        Case::Policy(case) => compare(&policy_case::CALLS, &POLICY, case, counts),
+    }
+}
+
+fn fail(what: &str) -> ! {
+    println!("{}", what);
+    std::process::exit(1)
+}
+
+fn number(text: &str) -> u64 {
+    text.parse().unwrap_or_else(|_| fail("SEED and COUNT are numbers"))
+}
+
+/// Keeps a case as a stream, and says where.
+fn keep(case: Case, path: &str) -> String {
+    match std::fs::write(path, write_cases([case].into_iter())) {
+        Ok(()) => format!("kept as {}", path),
+        Err(_) => format!("which cannot be kept as {}", path),
+    }
+}
+
+fn soak(seed: u64, count: usize, folder: &str) {
+    let mut counts = Counts::new();
+    for (k, case) in making::cases(seed, count).enumerate() {
+        if let Err(difference) = compare_case(&case, &mut counts) {
+            let kept = keep(case, &format!("{}/differs.{}.{}", folder, seed, k));
+            let alike = counts.total();
+            fail(&format!("{alike} calls alike, then a difference: case {k} of seed {seed}, {kept}\n{difference}"));
+        }
+    }
+    print!("{} cases of seed {}, {} calls, no difference\n{}", count, seed, counts.total(), counts.text());
+}
+
+fn main() {
+    let arguments: Vec<String> = std::env::args().skip(1).collect();
+    let arguments: Vec<&str> = arguments.iter().map(String::as_str).collect();
+    match arguments[..] {
+        [seed, count, folder] => soak(number(seed), number(count) as usize, folder),
+        _ => fail("soak SEED COUNT FOLDER"),
+    }
+}
