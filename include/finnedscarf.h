@@ -2,12 +2,12 @@
  * Finnedscarf: checks a schema table, judges a policy of edits on it, completes and mends the policy, and judges a mend that somebody
  * proposes. The five calls are proved to answer as said here for every input; nothing checks this header against them but tests/store.
  *
- * Build the library with `rt staticlib store` and link target/staticlib/libstore.a (x86-64 Linux).
+ * Build the library with `rt staticlib store` and link target/staticlib/libstore.a (x86-64 Linux). For C99 or C++11, or later.
  *
  * What is lent
- *   Each run is a pointer to its first item and the number of its items. The pointer is never NULL, not even with length 0: lend any
- *   address of the right type then. `out` overlaps no other run of the call. Nothing else may write to a lent run during the call.
- *   `words`, `marks` and `proposed` are only read. A call keeps nothing: no pointer, no state, no memory that must be freed.
+ *   Each run is a pointer to its first item and the number of its items. With length 0 the pointer may be any, also NULL; else it is never
+ *   NULL. `out` overlaps no other run of the call. Nothing else may write to a lent run during the call. `words`, `marks` and `proposed` are
+ *   only read. A call keeps nothing: no pointer, no state, no memory that must be freed.
  *
  * The table
  *   A run of 16-bit words: 8 words of header, three words for each of the E types, then the C entries of the child list.
@@ -118,6 +118,58 @@ finnedscarf_outcome finnedscarf_mend(const uint16_t *words, size_t words_length,
  */
 finnedscarf_outcome finnedscarf_judge_mend(const uint16_t *words, size_t words_length, const uint8_t *marks, size_t marks_length,
                                            const uint8_t *proposed, size_t proposed_length);
+
+/*
+ * The library itself never gets NULL, not even with length 0. So the names above reach the functions below, in a call and where an
+ * address is taken: each makes the exported call of its name, and lends the address of an item of its own for an empty run.
+ */
+#define FINNEDSCARF_LENT(run, none) (run##_length ? run : &none), run##_length
+
+static inline finnedscarf_outcome finnedscarf_check_table_lent(const uint16_t *words, size_t words_length)
+{
+    uint16_t no_word = 0;
+    return finnedscarf_check_table(FINNEDSCARF_LENT(words, no_word));
+}
+
+static inline finnedscarf_outcome finnedscarf_judge_policy_lent(const uint16_t *words, size_t words_length, const uint8_t *marks,
+                                                                size_t marks_length)
+{
+    uint16_t no_word = 0;
+    uint8_t no_byte = 0;
+    return finnedscarf_judge_policy(FINNEDSCARF_LENT(words, no_word), FINNEDSCARF_LENT(marks, no_byte));
+}
+
+static inline finnedscarf_outcome finnedscarf_complete_lent(const uint16_t *words, size_t words_length, const uint8_t *marks,
+                                                            size_t marks_length, uint8_t *out, size_t out_length)
+{
+    uint16_t no_word = 0;
+    uint8_t no_byte = 0;
+    return finnedscarf_complete(FINNEDSCARF_LENT(words, no_word), FINNEDSCARF_LENT(marks, no_byte), FINNEDSCARF_LENT(out, no_byte));
+}
+
+static inline finnedscarf_outcome finnedscarf_mend_lent(const uint16_t *words, size_t words_length, const uint8_t *marks,
+                                                        size_t marks_length, uint8_t *out, size_t out_length)
+{
+    uint16_t no_word = 0;
+    uint8_t no_byte = 0;
+    return finnedscarf_mend(FINNEDSCARF_LENT(words, no_word), FINNEDSCARF_LENT(marks, no_byte), FINNEDSCARF_LENT(out, no_byte));
+}
+
+static inline finnedscarf_outcome finnedscarf_judge_mend_lent(const uint16_t *words, size_t words_length, const uint8_t *marks,
+                                                              size_t marks_length, const uint8_t *proposed, size_t proposed_length)
+{
+    uint16_t no_word = 0;
+    uint8_t no_byte = 0;
+    return finnedscarf_judge_mend(FINNEDSCARF_LENT(words, no_word), FINNEDSCARF_LENT(marks, no_byte), FINNEDSCARF_LENT(proposed, no_byte));
+}
+
+#undef FINNEDSCARF_LENT
+
+#define finnedscarf_check_table finnedscarf_check_table_lent
+#define finnedscarf_judge_policy finnedscarf_judge_policy_lent
+#define finnedscarf_complete finnedscarf_complete_lent
+#define finnedscarf_mend finnedscarf_mend_lent
+#define finnedscarf_judge_mend finnedscarf_judge_mend_lent
 
 #ifdef __cplusplus
 }

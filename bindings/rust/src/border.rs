@@ -15,7 +15,8 @@ pub struct Outcome {
     pub privilege: usize,
 }
 
-// SAFETY of each call: a pointer and its length, from one slice that lives through the call; the borrows keep `out` apart from the rest.
+// SAFETY of each call: a pointer, which in a slice is never NULL, and its length, from one slice that lives through the call; the borrows keep
+// `out` apart from the rest.
 
 pub fn check_table(words: &[u16]) -> Outcome {
     unsafe { finnedscarf_check_table(words.as_ptr(), words.len()) }

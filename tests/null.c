@@ -1,0 +1,180 @@
+/*
+ * Lends NULL for empty runs: for each run of each call, and for several at once, on a table that has no privilege and on one that has one. Each
+ * call is made by its name and by its address, and must answer as document 01 has it. It is C and C++; as C++ it lends empty vectors too.
+ *
+ * tests/store links it with --wrap for each BORDER below: what the header calls by that name is then `__wrap_name`, which sees to it that no
+ * NULL comes so far, and `__real_name` is the library's own.
+ */
+#include <stdio.h>
+#include <stdlib.h>
+
+#ifdef __cplusplus
+#include <vector>
+#endif
+
+#include "finnedscarf.h"
+
+static size_t passed_on;
+
+static void pass_on(const char *name, int whole)
+{
+    if (!whole) {
+        printf("tests/null: NULL reaches the library's %s\n", name);
+        exit(1);
+    }
+    passed_on++;
+}
+
+#define BORDER(name, parameters, arguments, whole) \
+    finnedscarf_outcome __real_##name parameters;  \
+    finnedscarf_outcome __wrap_##name parameters   \
+    {                                              \
+        pass_on(#name, whole);                     \
+        return __real_##name arguments;            \
+    }
+
+#ifdef __cplusplus
+extern "C" {
+#endif
+BORDER(finnedscarf_check_table, (const uint16_t *words, size_t words_length), (words, words_length), words != NULL)
+BORDER(finnedscarf_judge_policy, (const uint16_t *words, size_t words_length, const uint8_t *marks, size_t marks_length),
+       (words, words_length, marks, marks_length), words && marks)
+BORDER(finnedscarf_complete,
+       (const uint16_t *words, size_t words_length, const uint8_t *marks, size_t marks_length, uint8_t *out, size_t out_length),
+       (words, words_length, marks, marks_length, out, out_length), words && marks && out)
+BORDER(finnedscarf_mend,
+       (const uint16_t *words, size_t words_length, const uint8_t *marks, size_t marks_length, uint8_t *out, size_t out_length),
+       (words, words_length, marks, marks_length, out, out_length), words && marks && out)
+BORDER(finnedscarf_judge_mend,
+       (const uint16_t *words, size_t words_length, const uint8_t *marks, size_t marks_length, const uint8_t *proposed, size_t proposed_length),
+       (words, words_length, marks, marks_length, proposed, proposed_length), words && marks && proposed)
+#ifdef __cplusplus
+}
+#endif
+
+typedef finnedscarf_outcome writes(const uint16_t *, size_t, const uint8_t *, size_t, uint8_t *, size_t);
+static finnedscarf_outcome (*const check_table)(const uint16_t *, size_t) = finnedscarf_check_table;
+static finnedscarf_outcome (*const judge_policy)(const uint16_t *, size_t, const uint8_t *, size_t) = &finnedscarf_judge_policy;
+static writes *const complete = finnedscarf_complete;
+static writes *const mend = &finnedscarf_mend;
+static finnedscarf_outcome (*const judge_mend)(const uint16_t *, size_t, const uint8_t *, size_t, const uint8_t *, size_t) =
+    finnedscarf_judge_mend;
+
+/* Two tables of one type, which is empty and has no privilege, or a text and has one: V is the table's place here. */
+static const uint16_t tables[2][11] = {{1, 11, 1, 0, 8, 0, 11, 0, 0, 0, 0}, {1, 11, 1, 0, 8, 0, 11, 1, 1, 0, 0}};
+static const uint8_t unset[1] = {FINNEDSCARF_UNSET}, allowed[1] = {FINNEDSCARF_ALLOWED};
+
+/* The runs of a call that are empty, as a sum. The third is the result, or the proposed marks. */
+enum { WORDS = 1, MARKS = 2, THIRD = 4 };
+
+enum { CHECK_TABLE, JUDGE_POLICY, COMPLETE, MEND, JUDGE_MEND, CALLS };
+
+static const struct {
+    const char *name;
+    int sums;            /* how many sums of its runs there are */
+    size_t number[2][8]; /* of its answer, by V and by that sum */
+} calls[CALLS] = {
+    {"check_table", 2, {{0, 1}, {0, 1}}},
+    {"judge_policy", 4, {{0, 1, 0, 1}, {0, 1, 10, 1}}},
+    {"complete", 8, {{0, 1, 0, 1, 0, 1, 0, 1}, {0, 1, 10, 1, 12, 1, 10, 1}}},
+    {"mend", 8, {{0, 1, 0, 1, 0, 1, 0, 1}, {0, 1, 10, 1, 12, 1, 10, 1}}},
+    {"judge_mend", 8, {{0, 1, 0, 1, 0, 1, 0, 1}, {0, 1, 10, 1, 13, 1, 10, 1}}},
+};
+
+struct runs {
+    const uint16_t *words;
+    const uint8_t *marks;
+    uint8_t *third;
+    size_t words_length, marks_length, third_length;
+};
+
+static finnedscarf_outcome by_name(int call, struct runs r)
+{
+    switch (call) {
+    case CHECK_TABLE: return finnedscarf_check_table(r.words, r.words_length);
+    case JUDGE_POLICY: return finnedscarf_judge_policy(r.words, r.words_length, r.marks, r.marks_length);
+    case COMPLETE: return finnedscarf_complete(r.words, r.words_length, r.marks, r.marks_length, r.third, r.third_length);
+    case MEND: return finnedscarf_mend(r.words, r.words_length, r.marks, r.marks_length, r.third, r.third_length);
+    default: return finnedscarf_judge_mend(r.words, r.words_length, r.marks, r.marks_length, r.third, r.third_length);
+    }
+}
+
+static finnedscarf_outcome by_address(int call, struct runs r)
+{
+    switch (call) {
+    case CHECK_TABLE: return check_table(r.words, r.words_length);
+    case JUDGE_POLICY: return judge_policy(r.words, r.words_length, r.marks, r.marks_length);
+    case COMPLETE: return complete(r.words, r.words_length, r.marks, r.marks_length, r.third, r.third_length);
+    case MEND: return mend(r.words, r.words_length, r.marks, r.marks_length, r.third, r.third_length);
+    default: return judge_mend(r.words, r.words_length, r.marks, r.marks_length, r.third, r.third_length);
+    }
+}
+
+/* Makes a call in which some runs are empty: those of `none`, which are all empty. */
+static void try_call(int call, int address, size_t v, int empty, struct runs none)
+{
+    uint8_t third[2] = {9, 9}, first = 9;
+    struct runs r = {tables[v], unset, third, 11, v, 2};
+    if (call == JUDGE_MEND) {
+        r.marks = allowed;
+        third[0] = first = FINNEDSCARF_FORBIDDEN;
+        r.third_length = v;
+    }
+    if (empty & WORDS) {
+        r.words = none.words;
+        r.words_length = 0;
+    }
+    if (empty & MARKS) {
+        r.marks = none.marks;
+        r.marks_length = 0;
+    }
+    if (empty & THIRD) {
+        r.third = none.third;
+        r.third_length = 0;
+    }
+    finnedscarf_outcome o = address ? by_address(call, r) : by_name(call, r);
+
+    size_t number = calls[call].number[v][empty];
+    size_t place = call == CHECK_TABLE && number == 0 ? v : 0;
+    size_t count = call == JUDGE_MEND && number == 0 ? v : 0;
+    if (v == 1 && number == 0 && call == COMPLETE)
+        first = FINNEDSCARF_FORBIDDEN;
+    if (v == 1 && number == 0 && call == MEND)
+        first = FINNEDSCARF_UNSET;
+    if (o.number != number || o.place != place || o.count != count || o.condition || o.type || o.i || o.j || o.privilege ||
+        third[0] != first || third[1] != 9) {
+        printf("tests/null: %s by %s, V %zu, empty runs %d: number %zu, place %zu, count %zu, third run %d %d, where %zu, %zu, %zu, %d 9 "
+               "and no breach is right\n",
+               calls[call].name, address ? "address" : "name", v, empty, o.number, o.place, o.count, third[0], third[1], number, place,
+               count, first);
+        exit(1);
+    }
+}
+
+static size_t try_all(struct runs none)
+{
+    size_t tried = 0;
+    for (int call = 0; call < CALLS; call++)
+        for (int address = 0; address < 2; address++)
+            for (size_t v = 0; v < 2; v++)
+                for (int empty = 0; empty < calls[call].sums; empty++, tried++)
+                    try_call(call, address, v, empty, none);
+    return tried;
+}
+
+int main(void)
+{
+    struct runs null = {NULL, NULL, NULL, 0, 0, 0};
+    size_t tried = try_all(null);
+#ifdef __cplusplus
+    std::vector<uint16_t> words;
+    std::vector<uint8_t> marks, third;
+    struct runs vectors = {words.data(), marks.data(), third.data(), 0, 0, 0};
+    tried += try_all(vectors);
+#endif
+    if (passed_on != tried) {
+        printf("tests/null: %zu calls made, and %zu seen on their way to the library\n", tried, passed_on);
+        return 1;
+    }
+    return 0;
+}
