@@ -2,8 +2,8 @@
 ghost use Prim.Native.Nat.{_≤_};
 ghost use lib.ListN.{length};
 use completion::complete;
-use mending::judge_mend;
 use mending::mend;
+use proposing::judge_mend;
 use stream::next_kind;
 use stream::next_length;
 use stream::read_bytes;

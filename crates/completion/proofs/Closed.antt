@@ -2,25 +2,25 @@
 -- that was granted is allowed, or reached, or at an opened type. Assumes nothing.
 use Prim.Native.Nat.{ℕ}
 use mathlib.Core.Path.{_≡_, refl}
-use mathlib.Core.Logic.{_≢_, _⊎_, inl, inr}
+use mathlib.Core.Logic.{_⊎_, inl, inr}
 use mathlib.Core.List.{List}
 use native.Mathlib.Omega.{arith}
 use Rattle.table.specs.Rule.{IsChoice, IsStar, childAt, Child}
-use Rattle.table.specs.Privilege.{Belongs, insertOf, deleteOf, replaceOf, Edit, insert, delete, replace, Offers, privilegeOf}
+use Rattle.table.specs.Privilege.{Belongs, insertOf, deleteOf, replaceOf, Replaceable, Edit, insert, delete, replace, Offers, privilegeOf}
 use Rattle.table.specs.Check.{Accepted}
 use Rattle.table.proofs.Privileges.{belongs-one, edit-belongs, edit-one}
 use Rattle.table.proofs.Facts.{facts, child-at}
 use Rattle.table.specs.Below.{Below, here, down}
 use Rattle.verdict.specs.Below.{PrivilegeBelow}
 use Rattle.table.specs.Plus.{last, next}
-use Rattle.verdict.specs.Reached.{Step, Reached}
+use Rattle.policy.specs.Reached.{Step, Reached}
 use Rattle.verdict.specs.Forces.{Forces, insert-delete, chain, cycle}
 use Rattle.table.proofs.Belows.{below-trans}
-use Rattle.verdict.proofs.Closures.{plus-trans}
-use Rattle.verdict.proofs.Breached.{reached-from}
-use Rattle.verdict.proofs.Forced.{reached-replaceable}
-use Rattle.completion.specs.Opens.{OpensAt, Opened, Granted}
-use Rattle.completion.specs.Opens as opens
+use Rattle.policy.proofs.Closures.{plus-trans}
+use Rattle.completion.specs.Granted.{Granted}
+use Rattle.completion.specs.steps.Opens.{OpensAt, Opened}
+use Rattle.completion.specs.steps.Opens as opens
+use Rattle.policy.proofs.Reaches.{reached-from}
 
 -- opening goes down
 pub opened-down : {ws : List ℕ} {S : ℕ → Type 0} {x y : ℕ} → Opened ws S y → Below ws x y → Opened ws S x
@@ -41,7 +41,7 @@ pub record Chained (ws : List ℕ) (S : ℕ → Type 0) (p : ℕ) : Type 0 where
   pub j : ℕ
   pub choice : IsChoice ws at
   pub reached : Reached ws S at i j
-  pub apart : i ≢ j
+  pub can : Replaceable ws at i j
   pub is : p ≡ replaceOf ws at i j
 
 below-opened : {ws : List ℕ} {S : ℕ → Type 0} {p x i : ℕ} → OpensAt ws S x i → PrivilegeBelow ws p (childAt ws x i) → (y : ℕ) × Belongs ws p y × Opened ws S y
@@ -49,7 +49,7 @@ below-opened {x = x} {i = i} o w = (w .type, w .belongs, record { at = x; i = i;
 
 pub forces-cases : {ws : List ℕ} {S : ℕ → Type 0} {p : ℕ} → Forces ws S p → ((y : ℕ) × Belongs ws p y × Opened ws S y) ⊎ Chained ws S p
 forces-cases (insert-delete x s a d w) = inl (below-opened (opens.star s a d refl) w)
-forces-cases (chain x i j s r d e) = inr (record { at = x; i = i; j = j; choice = s; reached = r; apart = d; is = e })
+forces-cases (chain x i j s r d e) = inr (record { at = x; i = i; j = j; choice = s; reached = r; can = d; is = e })
 forces-cases (cycle x i s r w) = inl (below-opened (opens.cycle s r) w)
 
 module _ {ws : List ℕ} {S : ℕ → Type 0} where
@@ -64,7 +64,7 @@ module _ {ws : List ℕ} {S : ℕ → Type 0} where
 
   -- a chain's privilege is that of its own replacement
   chained-edit : (e : Edit) → Offers ws e → (c : Chained ws S (privilegeOf ws e)) → e ≡ replace (c .at) (c .i) (c .j)
-  chained-edit e o c = edit-one ws e (replace (c .at) (c .i) (c .j)) o (reached-replaceable (c .choice) (c .reached) (c .apart)) (c .is)
+  chained-edit e o c = edit-one ws e (replace (c .at) (c .i) (c .j)) o (c .can) (c .is)
 
   -- a step that was granted is at an opened type, or reached
   pub step-source : {x i j : ℕ} → Step ws (Granted ws S) x i j → Opened ws S x ⊎ Reached ws S x i j
@@ -131,8 +131,8 @@ module _ {ws : List ℕ} {S : ℕ → Type 0} (a : Accepted ws) where
   granted-closed {p} f = go (forces-cases f)
     where
       chained : (c : Chained ws (Granted ws S) p) → Opened ws S (c .at) ⊎ Reached ws S (c .at) (c .i) (c .j) → Granted ws S p
-      chained c (inl o) = inr (opened-forces o (rw (c .is) (edit-belongs ws (replace (c .at) (c .i) (c .j)) (reached-replaceable (c .choice) (c .reached) (c .apart)))))
-      chained c (inr r) = inr (chain (c .at) (c .i) (c .j) (c .choice) r (c .apart) (c .is))
+      chained c (inl o) = inr (opened-forces o (rw (c .is) (edit-belongs ws (replace (c .at) (c .i) (c .j)) (c .can))))
+      chained c (inr r) = inr (chain (c .at) (c .i) (c .j) (c .choice) r (c .can) (c .is))
 
       go : ((y : ℕ) × Belongs ws p y × Opened ws (Granted ws S) y) ⊎ Chained ws (Granted ws S) p → Granted ws S p
       go (inl (y, b, o)) = inr (opened-forces (opened-source o) b)

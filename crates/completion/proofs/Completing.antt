@@ -7,23 +7,23 @@ use native.Mathlib.Omega.{arith}
 use lib.ListN.{length, getD, take, drop, length-drop, take-append-drop, List·getD-append}
 use lib.Seq.{length-take-le, getD-take, getD-drop, ext-getD}
 use Rattle.table.specs.Privilege.{privileges}
-use Rattle.verdict.specs.Marks.{Allowed, Policy}
+use Rattle.policy.specs.Marks.{Allowed, Policy}
 use Rattle.verdict.specs.Conditions.{Clean}
-use Rattle.verdict.specs.Breaches.{FirstBreach}
+use Rattle.verdict.specs.Breaches.{spotOf, FirstBreach}
 use Rattle.verdict.specs.Answers.{breached, done}
 use Rattle.verdict.specs.declared.Answer.{Answer}
 use Rattle.verdict.specs.declared.Breach.{Breach}
-use Rattle.verdict.proofs.Policies.{policy-not, refused-one, refused-number}
+use Rattle.policy.proofs.Policies.{policy-not, refused-one, refused-number}
 use Rattle.verdict.proofs.Firsts.{first-one, clean-none}
 use Rattle.verdict.proofs.Judged.{refusal-one}
 use Rattle.completion.specs.Completions.{Keeps, Completes, LeastCompletion}
-use Rattle.completion.specs.Passes.{Filled}
+use Rattle.completion.specs.steps.Passes.{Filled}
 use Rattle.completion.specs.Answers.{CompleteAnswer, refused, short, none, given}
 use Rattle.completion.proofs.Least.{Completed, completes-clean, completed-least, least-one, completes-earlier, fuller-allows}
 
 -- a policy with a breach has no completion
 pub broken-none : {ws m : List ℕ} {b : Breach} → FirstBreach ws m b → (n : List ℕ) → ¬ Completes ws m n
-broken-none {ws} {m} {b} f n c = clean-none ws m (completes-clean c) b (f .breach)
+broken-none {ws} {m} {b} f n c = clean-none ws m (completes-clean c) (spotOf b) (b .privilege) (f .breach)
 
 -- a clean one gets what was written
 module _ {ws m out after : List ℕ} (room : privileges ws ≤ length out) (f : Filled ws m out after) where

@@ -7,23 +7,25 @@ use mathlib.Core.List.{List}
 use native.Mathlib.Nat.{eq-or-lt-of-le}
 use native.Mathlib.Omega.{arith}
 use lib.ListN.{length, getD, replicate, getD-replicate}
-use Rattle.table.specs.Lowest.{Tells}
+use Rattle.table.specs.steps.Found.{Tells}
 use Rattle.table.specs.Words.{types}
 use Rattle.table.specs.Rule.{childrenAt, childAt, Child}
 use Rattle.table.specs.Privilege.{Belongs}
-use Rattle.table.specs.Order.{BottomUp}
+use Rattle.table.specs.steps.Order.{BottomUp}
 use Rattle.table.specs.Check.{Accepted}
 use Rattle.table.proofs.Lowest.{told-yes, tells-as}
 use Rattle.table.proofs.Privileges.{belongs-one, belongs-some, belongs-below}
 use Rattle.table.proofs.Facts.{facts}
-use Rattle.verdict.specs.Marks.{Allowed}
+use Rattle.policy.specs.Marks.{Allowed}
 use Rattle.table.specs.Below.{Below, here, down}
-use Rattle.verdict.proofs.Breached.{reached-from}
-use Rattle.completion.specs.Opens.{OpensAt, star, cycle, Opened, Granted, PassesOn}
-use Rattle.completion.specs.Writing.{Decision, isOpen}
-use Rattle.completion.specs.Passes.{Done, Filled}
+use Rattle.completion.specs.Granted.{Granted}
+use Rattle.completion.specs.steps.Opens.{OpensAt, star, cycle, Opened, PassesOn}
+use Rattle.policy.specs.steps.Writing.{Decision}
+use Rattle.completion.specs.steps.Writing.{isOpen}
+use Rattle.completion.specs.steps.Passes.{Done, Filled}
 use Rattle.completion.proofs.Closed.{opened-down}
 use Rattle.completion.proofs.Openings.{holds-on}
+use Rattle.policy.proofs.Reaches.{reached-from}
 
 -- what is below a type is that type, or a child of what is below it
 below-last : {ws : List ℕ} {x y : ℕ} → Below ws x y → (x ≡ y) ⊎ ((z : ℕ) × Child ws z x × Below ws z y)

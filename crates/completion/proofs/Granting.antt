@@ -12,19 +12,20 @@ use Rattle.table.specs.Words.{types}
 use Rattle.table.specs.Rule.{countOf, childAt}
 use Rattle.table.specs.Privilege.{privileges, insertOf, deleteOf, replaceOf}
 use Rattle.table.proofs.Test.{Test, isEqual, both, either, fails, implies, means, some, every}
-use Rattle.table.proofs.TableTests.{ofKind, belongs}
-use Rattle.verdict.specs.Marks.{Allowed, Forbidden, Policy}
+use Rattle.table.proofs.TableTests.{ofKind, replaceable, belongs}
+use Rattle.policy.specs.Marks.{Allowed, Forbidden, Policy}
 use Rattle.verdict.specs.Conditions.{Clean}
 use Rattle.verdict.specs.Forces.{Forces, chain}
-use Rattle.verdict.proofs.Breached.{reached-from, reached-to}
 use Rattle.verdict.proofs.Forced.{forced-below, clean-forces, forces-clean}
 use Rattle.table.proofs.BelowTests.{below}
 use Rattle.verdict.proofs.PolicyTests.{allowed, forbidden, policy, reached}
 use Rattle.completion.specs.Completions.{Completes, LeastCompletion}
-use Rattle.completion.specs.Opens.{OpensAt, star, cycle, Opened, Granted}
-use Rattle.completion.specs.Writing.{Decision, allow, forbid, decision}
+use Rattle.completion.specs.Granted.{Granted}
+use Rattle.completion.specs.steps.Opens.{OpensAt, star, cycle, Opened}
+use Rattle.policy.specs.steps.Writing.{Decision, allow, forbid, decision}
 use Rattle.completion.proofs.Closed.{opened-forces, Chained, forces-cases}
 use Rattle.completion.proofs.Least.{Completed, completes-clean, completed-least}
+use Rattle.policy.proofs.Reaches.{reached-from}
 
 -- f 0, f 1 and so on, n numbers
 abbrev tabulate : ℕ → (ℕ → ℕ) → List ℕ
@@ -78,18 +79,18 @@ module _ (ws m : List ℕ) where
         j = h .2 .1 .2 .0;
         choice = h .2 .0;
         reached = h .2 .1 .2 .2 .1 .1;
-        apart = h .2 .1 .2 .2 .0;
+        can = h .2 .1 .2 .2 .0;
         is = h .2 .1 .2 .2 .1 .0;
       })
-      (λ c. (c .at, c .choice .type, (c .choice, (c .i, reached-from (c .reached), (c .j, reached-to (c .reached), (c .apart, (c .is, c .reached)))))))
+      (λ c. (c .at, c .choice .type, (c .choice, (c .i, c .can .from, (c .j, c .can .to, (c .can, (c .is, c .reached)))))))
       (some (types ws) (λ x. both (ofKind ws x 3) (some (countOf ws x) (λ i. some (countOf ws x) (λ j.
-      both (fails (isEqual i j)) (both (isEqual p (replaceOf ws x i j)) (reached ws m x i j)))))))
+      both (replaceable ws x i j) (both (isEqual p (replaceOf ws x i j)) (reached ws m x i j)))))))
 
   -- a reached replacement, or a privilege of an opened type
   abbrev forces : (p : ℕ) → Test (Forces ws (Allowed m) p)
   forces p = means
       (λ h. elim h [
-        | inl c ↦ chain (c .at) (c .i) (c .j) (c .choice) (c .reached) (c .apart) (c .is)
+        | inl c ↦ chain (c .at) (c .i) (c .j) (c .choice) (c .reached) (c .can) (c .is)
         | inr (y, l, (b, o)) ↦ opened-forces o b
       ])
       (λ f. elim (forces-cases f) [ inl (y, b, o) ↦ inr (y, b .type, (b, o)) | inr c ↦ inl c ])

@@ -9,13 +9,13 @@ use lib.ListN.{length, getD}
 use lib.Seq.{ext-getD}
 use Rattle.table.specs.Privilege.{privileges}
 use Rattle.table.proofs.Lists.{le-or-lt}
-use Rattle.verdict.specs.Marks.{Allowed, Forbidden, Policy}
+use Rattle.policy.specs.Marks.{Allowed, Forbidden, Policy}
 use Rattle.verdict.specs.Conditions.{Clean}
-use Rattle.verdict.proofs.Policies.{marked-within}
+use Rattle.policy.proofs.Policies.{marked-within}
 use Rattle.verdict.proofs.Forced.{forces-mono, forced-below, clean-forces, forces-clean}
 use Rattle.completion.specs.Completions.{Keeps, Completes, LeastCompletion}
-use Rattle.completion.specs.Opens.{Granted}
-use Rattle.completion.specs.Writing.{Decision, allow, forbid}
+use Rattle.completion.specs.Granted.{Granted}
+use Rattle.policy.specs.steps.Writing.{Decision, allow, forbid}
 use Rattle.completion.proofs.Closed.{granted-closed}
 
 -- n allows exactly what is granted

@@ -2,7 +2,6 @@
 pub mod Closed
 pub mod Least
 pub mod Openings
-pub mod Writings
 pub mod Passing
 pub mod Descent
 pub mod Completing

@@ -10,9 +10,9 @@ use native.Mathlib.Omega.{arith}
 use borrow.Author.Tests.{eq-eqb}
 use lib.ListN.{length, getD, set, length-set}
 use lib.Seq.{getD-set-same, getD-set-other}
-use Rattle.table.specs.Lowest.{Tells}
+use Rattle.table.specs.steps.Found.{Tells}
 use Rattle.table.proofs.Lowest.{tells-as, tells-by}
-use Rattle.completion.specs.Writing.{isOpen, KidsOpened}
+use Rattle.completion.specs.steps.Writing.{isOpen, KidsOpened}
 
 -- z stands at one of the first n positions, and G opens it there
 pub record Among (G : ℕ → Type 0) (kids : List ℕ) (n z : ℕ) : Type 0 where

@@ -8,24 +8,27 @@ use native.Mathlib.Omega.{arith}
 use lib.ListN.{length, getD}
 use Rattle.table.specs.Words.{types}
 use Rattle.table.specs.Rule.{ruleAt, kindIn, countOf, childrenAt, IsChoice, IsStar}
-use Rattle.table.specs.Privilege.{privilegesAt, firstPrivilege, privileges, Belongs, insertOf, deleteOf, replaceOf, NumberedAs, Replaceable, Edit, text, insert, delete, replace, typeOf, Offers, privilegeOf}
+use Rattle.table.specs.Privilege.{privilegesAt, firstPrivilege, privileges, Belongs, insertOf, deleteOf, replaceOf, Replaceable, Edit, text, insert, delete, replace, typeOf, Offers, privilegeOf}
+use Rattle.table.specs.steps.Numbering.{NumberedAs}
 use Rattle.table.specs.declared.privilege.Numbering.{Numbering}
 use Rattle.table.specs.Check.{Accepted}
 use Rattle.table.proofs.Lists.{le-or-lt}
 use Rattle.table.proofs.Privileges.{first-next, first-within, belongs-one, edit-belongs, edit-of, insert-in, delete-in, in-replaceable, replaceable-in, replace-in}
 use Rattle.table.proofs.Facts.{facts}
-use Rattle.verdict.specs.Marks.{Allowed}
-use Rattle.verdict.specs.Reached.{Reached, marked, Square}
+use Rattle.policy.specs.Marks.{Allowed}
+use Rattle.policy.specs.Reached.{Reached}
+use Rattle.policy.specs.steps.Squares.{marked, Square}
 use Rattle.verdict.specs.Forces.{chain}
-use Rattle.verdict.proofs.SquareLaws.{marked-told, told-marked, room-of}
-use Rattle.verdict.proofs.Forced.{reached-replaceable}
-use Rattle.completion.specs.Opens.{star, cycle, Opened, Granted, PassesOn}
-use Rattle.completion.specs.Passes.{Visited, Both}
-use Rattle.verdict.specs.Squares.{Room}
-use Rattle.completion.specs.Writing.{Decision, KidsOpened, ChoiceWritten, TypeWritten, RangeWritten}
+use Rattle.policy.proofs.SquareLaws.{marked-told, told-marked, room-of}
+use Rattle.completion.specs.Granted.{Granted}
+use Rattle.completion.specs.steps.Opens.{star, cycle, Opened, PassesOn}
+use Rattle.completion.specs.steps.Passes.{Visited, Both}
+use Rattle.policy.specs.steps.Squares.{Room}
+use Rattle.policy.specs.steps.Writing.{Decision, ChoiceWritten, RangeWritten}
+use Rattle.completion.specs.steps.Writing.{KidsOpened, TypeWritten}
 use Rattle.completion.proofs.Closed.{opened-forces, Chained, forces-cases, step-source}
 use Rattle.completion.proofs.Openings.{kids-as}
-use Rattle.completion.proofs.Writings.{decision-as}
+use Rattle.policy.proofs.Writings.{decision-as}
 
 -- the marks from a type's first privilege on are its own
 range-own : {ws : List ℕ} {P Q : ℕ → Type 0} {x first n : ℕ} {old new : List ℕ} → x < types ws → first ≡ firstPrivilege ws x → n ≡ privilegesAt ws x
@@ -50,7 +53,7 @@ module _ {ws : List ℕ} {S : ℕ → Type 0} {x : ℕ} (shut : ¬ Opened ws S x
       go : ((y : ℕ) × Belongs ws p y × Opened ws S y) ⊎ Chained ws S p → S p
       go (inl (y, c, o)) = let q : y ≡ x = belongs-one c b in absurd (shut (rw q at o))
       go (inr c) =
-          let here : Belongs ws p (c .at) = rw (c .is) (edit-belongs ws (replace (c .at) (c .i) (c .j)) (reached-replaceable (c .choice) (c .reached) (c .apart))) in
+          let here : Belongs ws p (c .at) = rw (c .is) (edit-belongs ws (replace (c .at) (c .i) (c .j)) (c .can)) in
           let q : c .at ≡ x = belongs-one here b in
           absurd (d (rw q at (c .choice .kind-is)))
 
@@ -125,7 +128,7 @@ module _ {ws : List ℕ} {S : ℕ → Type 0} {x : ℕ} {square : List ℕ} (shu
   }
     where
       grant : {i j : ℕ} → Replaceable ws x i j → marked square i j ≡ true → Granted ws S (replaceOf ws x i j)
-      grant {i} {j} r e = inr (chain x i j c (marked-told tells i j (record { from = r .from; to = r .to; is = e })) (r .apart) refl)
+      grant {i} {j} r e = inr (chain x i j c (marked-told tells i j (record { from = r .from; to = r .to; is = e })) r refl)
 
       lead : {i j : ℕ} → Replaceable ws x i j → Granted ws S (replaceOf ws x i j) → marked square i j ≡ true
       lead {i} {j} r g = told-marked tells i j (r .from) (r .to) (granted-reached shut r g) .is

@@ -5,7 +5,7 @@ use mathlib.Core.Path.{_≡_}
 use mathlib.Core.List.{List, _++_}
 use lib.ListN.{length, drop}
 use Rattle.table.specs.Privilege.{privileges}
-use Rattle.verdict.specs.Marks.{NoPolicy, Policy}
+use Rattle.policy.specs.Marks.{NoPolicy, Policy}
 use Rattle.verdict.specs.Breaches.{FirstBreach}
 use Rattle.verdict.specs.Answers.{refusal, breached, done}
 use Rattle.verdict.specs.declared.Answer.{Answer}

@@ -5,7 +5,7 @@ use mathlib.Core.Logic.{_≢_, _⊎_}
 use mathlib.Core.List.{List}
 use lib.ListN.{length, getD}
 use Rattle.table.specs.Privilege.{privileges}
-use Rattle.verdict.specs.Marks.{Allowed, Forbidden}
+use Rattle.policy.specs.Marks.{Allowed, Forbidden}
 use Rattle.verdict.specs.Conditions.{Clean}
 
 -- n keeps every mark that is set in m

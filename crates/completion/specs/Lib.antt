@@ -1,6 +1,5 @@
--- What the contracts of src/ cite, a file for each notion.
+-- What the contracts of src/ cite, a file for each notion; steps holds what only the building blocks cite.
 pub mod Completions
-pub mod Opens
-pub mod Writing
-pub mod Passes
+pub mod Granted
 pub mod Answers
+pub mod steps

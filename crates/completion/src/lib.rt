@@ -6,10 +6,10 @@ mod pass;
 mod write;
 
 use pass::complete_all;
+use policy::marks::check_policy;
 use verdict::Answer;
 use verdict::Condition;
 use verdict::breaches::first_breach;
-use verdict::marks::check_policy;
 use verdict::refused;
 
 // Completes a policy with the least permission: refuses with 1 to 12, 16 or 19, or writes V decided marks into the result, whose rest it keeps.

@@ -1,12 +1,12 @@
-// Opening the children of a type: a byte for each type, 1 where it is opened. Contracts cite specs/Writing.
+// Opening the children of a type: a byte for each type, 1 where it is opened. Contracts cite specs/steps/Writing.
 ghost use mathlib.Core.Path.{_≡_};
 ghost use mathlib.Core.Bool.{true};
 ghost use Prim.Native.Nat.{ℕ, _≤_, _<_};
 ghost use lib.ListN.{length, getD};
-ghost use Rattle.verdict.specs.Reached.{marked};
-ghost use Rattle.completion.specs.Writing.{KidsOpened};
+ghost use Rattle.policy.specs.steps.Squares.{marked};
+ghost use Rattle.completion.specs.steps.Writing.{KidsOpened};
+use policy::rows::leads;
 use table::words::word_at;
-use verdict::reach::leads;
 
 // Opens all children.
 pub fn open_all(opened: &mut [u8; 256], kids: &[u16])

@@ -1,17 +1,19 @@
-// One pass from parents to children: each type opens what it passes on, and its marks are written. Contracts cite specs/Passes.
+// One pass from parents to children: each type opens what it passes on, and its marks are written. Contracts cite specs/steps/Passes.
 ghost use Prim.Native.Nat.{_≤_};
 ghost use lib.ListN.{length};
-ghost use Rattle.table.specs.Lowest.{Tells};
+ghost use Rattle.table.specs.steps.Found.{Tells};
 ghost use Rattle.table.specs.Rule.{IsChoice, IsStar};
 ghost use Rattle.table.specs.Privilege.{privileges};
-ghost use Rattle.table.specs.Order.{BottomUp};
-ghost use Rattle.verdict.specs.Marks.{Allowed, Policy};
-ghost use Rattle.completion.specs.Opens.{Opened};
-ghost use Rattle.completion.specs.Passes.{Visited, Both, Done, Filled};
+ghost use Rattle.table.specs.steps.Order.{BottomUp};
+ghost use Rattle.policy.specs.Marks.{Allowed, Policy};
+ghost use Rattle.completion.specs.steps.Opens.{Opened};
+ghost use Rattle.completion.specs.steps.Passes.{Visited, Both, Done, Filled};
 use super::open::open_all;
 use super::open::open_cycles;
-use super::write::write_choice;
 use super::write::write_range;
+use policy::marks::mark_at;
+use policy::reach::reached;
+use policy::write::write_choice;
 use table::privilege::Numbering;
 use table::privilege::deletion;
 use table::privilege::first_privileges;
@@ -22,8 +24,6 @@ use table::rule::Rule;
 use table::rule::children;
 use table::rule::rule_at;
 use table::words::types;
-use verdict::marks::mark_at;
-use verdict::reach::reached;
 
 // Are the insert and the delete both allowed?
 fn both_allowed(marks: &[u8], n: Numbering) -> bool

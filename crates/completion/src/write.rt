@@ -1,28 +1,13 @@
-// Writing the decided marks of a type. Contracts cite specs/Writing.
+// Writing the decided marks of a type by their own. Contracts cite specs/steps/Writing.
 ghost use mathlib.Core.Path.{_≡_};
 ghost use mathlib.Core.Bool.{true};
 ghost use mathlib.Core.Logic.{_⊎_};
-ghost use Prim.Native.Nat.{_+_, _-_, _≤_, _<_};
+ghost use Prim.Native.Nat.{_≤_};
 ghost use lib.ListN.{length};
-ghost use Rattle.verdict.specs.Marks.{Allowed};
-ghost use Rattle.verdict.specs.Reached.{bit};
-ghost use Rattle.verdict.specs.Squares.{Room};
-ghost use Rattle.completion.specs.Writing.{decision, RangeWritten, RowWritten, ChoiceWritten};
-use table::privilege::Numbering;
-use table::privilege::is_replaceable;
-use table::privilege::replacement;
-use table::privilege::row_at;
-use verdict::marks::mark_at;
-use verdict::packed::without_gap;
-use verdict::reach::has;
-use verdict::reach::leads;
-
-// Allowed or forbidden.
-fn decided(allowed: bool) -> u8
-    ensures { λ r. ⌜ r ≡ decision allowed ⌝ }
-{
-    if allowed { 1 } else { 2 }
-}
+ghost use Rattle.policy.specs.Marks.{Allowed};
+ghost use Rattle.policy.specs.steps.Writing.{RangeWritten};
+use policy::marks::mark_at;
+use policy::write::decided;
 
 // Decides the marks from one number up to another: all allowed, or those that are.
 pub fn write_range(out: &mut [u8], marks: &[u8], all: bool, from: usize, until: usize)
@@ -37,62 +22,5 @@ pub fn write_range(out: &mut [u8], marks: &[u8], all: bool, from: usize, until: 
             out[p] = decided(mark_at(marks, p) == 1);
         }
         p += 1;
-    }
-}
-
-// Decides the replacements of the child at i one by one: those to which the square leads are allowed.
-fn write_each(out: &mut [u8], square: &[u16; 16], n: Numbering, i: usize)
-    requires { ⌜ Room n (now out) × (i < 16) ⌝ }
-    ensures { λ _. ⌜ RowWritten n (now (square .entry)) i (now (out .entry)) (now (out .exit)) ⌝ }
-{
-    let count = n.count;
-    let mut j = 0;
-    while j < count {
-        if is_replaceable(n, i, j) {
-            out[replacement(n, i, j)] = decided(leads(square, i, j));
-        }
-        j += 1;
-    }
-}
-
-// Decides eight marks from a place on by the lowest bits of a row. The compiler writes them at once.
-fn write_eight(out: &mut [u8], at: usize, bits: u16)
-    requires { ⌜ at + 8 ≤ length (now out) ⌝ }
-    ensures { λ _. ⌜ RangeWritten (λ p. bit bits (p - at) ≡ true) at (at + 8) (now (out .entry)) (now (out .exit)) ⌝ }
-{
-    let mut k = 0;
-    while k < 8 {
-        out[at + k] = decided(has(bits, k));
-        k += 1;
-    }
-}
-
-// Decides the replacements of the child at i: where there are eight or more, the first eight and the last eight.
-fn write_row(out: &mut [u8], square: &[u16; 16], n: Numbering, i: usize)
-    requires { ⌜ Room n (now out) × (i < n .count) ⌝ }
-    ensures { λ _. ⌜ RowWritten n (now (square .entry)) i (now (out .entry)) (now (out .exit)) ⌝ }
-{
-    let count = n.count;
-    if count < 9 {
-        write_each(out, square, n, i);
-        return;
-    }
-    let at = row_at(n, i);
-    let bits = without_gap(square[i], i);
-    let last = count - 9;
-    write_eight(out, at, bits);
-    write_eight(out, at + last, bits >> last);
-}
-
-// Decides the replacements of a choice.
-pub fn write_choice(out: &mut [u8], square: &[u16; 16], n: Numbering)
-    requires { ⌜ Room n (now out) ⌝ }
-    ensures { λ _. ⌜ ChoiceWritten n (now (square .entry)) (now (out .entry)) (now (out .exit)) ⌝ }
-{
-    let count = n.count;
-    let mut i = 0;
-    while i < count {
-        write_row(out, square, n, i);
-        i += 1;
     }
 }

@@ -5,7 +5,8 @@ use mathlib.Core.List.{List, [], _++_, append-assoc}
 use native.Mathlib.Omega.{arith}
 use lib.ListN.{length, getD, set, take, drop, length-append, length-map}
 use lib.Seq.{paste, paste-zero, paste-suc, length-paste, take-paste, drop-paste, take-length, drop-drop}
-use Rattle.lines.specs.Text.{raised, Puts}
+use Rattle.lines.specs.Text.{raised}
+use Rattle.lines.specs.steps.Putting.{Puts}
 
 pub raised-length : (by : ℕ) (l : List ℕ) → length (raised by l) ≡ length l
 raised-length by l = length-map l (λ (b : ℕ). b + by)

@@ -1,2 +1,3 @@
 -- What the contracts of src/ cite.
 pub mod Text
+pub mod steps

@@ -1,8 +1,9 @@
-// Text put into a lent buffer. Contracts cite specs/Text.
+// Text put into a lent buffer. Contracts cite specs/Text and specs/steps/Putting.
 ghost use Prim.Native.Nat.{_+_, _*_, _≤_};
 ghost use mathlib.Core.List.{_∷_};
 ghost use lib.ListN.{length};
-ghost use Rattle.lines.specs.Text.{raised, Raisable, decimal, numbers, marksText, line, Puts};
+ghost use Rattle.lines.specs.Text.{raised, decimal, numbers, marksText, line};
+ghost use Rattle.lines.specs.steps.Putting.{Raisable, Puts};
 
 // Puts bytes, each raised by a number: 0 for text, 48 for digits.
 fn put(out: &mut [u8], at: usize, bytes: &[u8], by: u8) -> usize

@@ -1,19 +1,18 @@
 -- Counting marks: one mark less is one less in the sum. Assumes nothing.
 use Prim.Native.Nat.{ℕ, zero, suc, _+_, _≤_, _<_}
-use mathlib.Core.Path.{_≡_, refl, _∙_}
+use mathlib.Core.Path.{_≡_, refl}
 use mathlib.Core.Logic.{_≢_, inl, inr}
 use mathlib.Core.Bool.{Bool, true, false, cond}
 use mathlib.Core.List.{List}
 use native.Mathlib.Nat.{eq-or-lt-of-le, suc-inj}
 use native.Mathlib.Omega.{arith}
-use borrow.Author.Tests.{eq-eqb, ne-eqb}
+use borrow.Author.Tests.{eq-eqb}
 use lib.Dec.{eqb}
 use lib.ListN.{length, getD, set}
 use lib.Seq.{getD-set-same, getD-set-other}
 use Rattle.table.specs.Sum.{sumBelow}
-use Rattle.table.proofs.Sum.{sum-more}
-use Rattle.verdict.specs.Marks.{Allowed, Forbidden}
-use Rattle.mending.specs.Proposals.{changes}
+use Rattle.policy.specs.Marks.{Allowed, Forbidden}
+use Rattle.proposing.specs.Proposals.{changes}
 
 -- sums that agree below v, and sums that differ by one at one number
 sum-same : (f g : ℕ → ℕ) (v : ℕ) → ((q : ℕ) → q < v → f q ≡ g q) → sumBelow f v ≡ sumBelow g v
@@ -68,10 +67,3 @@ module _ (m : List ℕ) (p : ℕ) (l : p < length m) where
 
 pub changes-none : (m : List ℕ) (v : ℕ) → changes m m v ≡ 0
 changes-none m v = sum-none (λ p. cond (eqb (getD m p 0) (getD m p 0)) 0 1) v (λ p. rw (eq-eqb (getD m p 0) (getD m p 0) refl))
-
--- one mark more is looked at: it changed, or not
-pub changes-here : (m n : List ℕ) (p : ℕ) → getD n p 0 ≢ getD m p 0 → changes m n (p + 1) ≡ changes m n p + 1
-changes-here m n p d = sum-more (λ q. cond (eqb (getD n q 0) (getD m q 0)) 0 1) p ∙ rw (ne-eqb (getD n p 0) (getD m p 0) d)
-
-pub changes-same : (m n : List ℕ) (p : ℕ) → getD n p 0 ≡ getD m p 0 → changes m n (p + 1) ≡ changes m n p
-changes-same m n p e = sum-more (λ q. cond (eqb (getD n q 0) (getD m q 0)) 0 1) p ∙ rw (eq-eqb (getD n p 0) (getD m p 0) e) (omega arith)

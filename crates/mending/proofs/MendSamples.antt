@@ -11,8 +11,9 @@ use Rattle.verdict.specs.Answers.{breached}
 use Rattle.verdict.specs.declared.Answer.{Answer}
 use Rattle.verdict.specs.declared.Condition.the-variants.{Chain}
 use Rattle.mending.specs.Mends.{Mends}
-use Rattle.mending.specs.Answers.{ProposeAnswer}
-use Rattle.mending.proofs.MendTests.{mendBy, mend-by, proposeBy, propose-by}
+use Rattle.proposing.specs.Answers.{ProposeAnswer}
+use Rattle.mending.proofs.MendTests.{mendBy, mend-by}
+use Rattle.proposing.proofs.ProposeTests.{proposeBy, propose-by}
 
 -- words and marks, with what mending gives and its count; or with proposed marks and their answer
 pub data Row : Type 0 where

@@ -10,17 +10,17 @@ use lib.ListN.{length, set, length-set}
 use Rattle.table.specs.Privilege.{privileges, Belongs, replaceOf, delete, replace}
 use Rattle.table.proofs.Lists.{le-or-lt}
 use Rattle.table.proofs.Privileges.{belongs-below, edit-belongs}
-use Rattle.verdict.specs.Marks.{Allowed, Forbidden}
+use Rattle.policy.specs.Marks.{Allowed, Forbidden}
 use Rattle.verdict.specs.Conditions.{Clean}
-use Rattle.verdict.specs.Breaches.{IsBreach, BreachOf}
-use Rattle.verdict.specs.declared.Breach.{Breach}
+use Rattle.verdict.specs.Below.{ForbiddenBelow}
+use Rattle.verdict.specs.Breaches.{Spot, IsBreach, BreachOf, FirstSpot}
 use Rattle.verdict.specs.declared.Condition.{Condition}
 use Rattle.verdict.specs.declared.Condition.the-variants.{None, InsertDelete, Chain, Cycle}
-use Rattle.verdict.proofs.Policies.{marked-within}
-use Rattle.verdict.proofs.Firsts.{first-one, clean-none}
-use Rattle.mending.specs.Mends.{LowestLead, Takes, Mends, done, more}
-use Rattle.mending.specs.Proposals.{Kept, changes}
-use Rattle.mending.specs.Taking.{Follows, start, take}
+use Rattle.policy.proofs.Policies.{marked-within}
+use Rattle.verdict.proofs.Firsts.{spot-one, clean-none}
+use Rattle.mending.specs.Mends.{LowestLead, TakesFor, Takes, Mends, done, more}
+use Rattle.proposing.specs.Proposals.{Kept, changes}
+use Rattle.mending.specs.steps.Taking.{Follows, start, take}
 use Rattle.mending.proofs.Counting.{allowedIn, taken-here, taken-other, allowed-less, changes-more, changes-none}
 
 module _ (ws m : List ℕ) where
@@ -32,37 +32,41 @@ module _ (ws m : List ℕ) where
       go (inl g) (inr h) = absurd (b .lowest (a .k) h (a .leads))
       go (inr g) h = absurd (a .lowest (b .k) g (b .leads))
 
-  takes-one : (k : Condition) (b : Breach) (p q : ℕ) → Takes ws m k b p → Takes ws m k b q → p ≡ q
-  takes-one None b p q g h = absurd g
-  takes-one InsertDelete b p q g h = g ∙ sym h
-  takes-one Chain b p q g h = lowest-lead-one g h
-  takes-one Cycle b p q g h = lowest-lead-one g h
+  takes-for-one : (k : Condition) (s : Spot) (p q : ℕ) → TakesFor ws m k s p → TakesFor ws m k s q → p ≡ q
+  takes-for-one None s p q g h = absurd g
+  takes-for-one InsertDelete s p q g h = g ∙ sym h
+  takes-for-one Chain s p q g h = lowest-lead-one g h
+  takes-for-one Cycle s p q g h = lowest-lead-one g h
+
+  takes-one : (s : Spot) (p q : ℕ) → Takes ws m s p → Takes ws m s q → p ≡ q
+  takes-one s = takes-for-one (s .condition) s
 
   -- what is taken was allowed, and is a privilege of the breached type
-  takes-by : (k : Condition) (b : Breach) (p : ℕ) → BreachOf ws m k b → Takes ws m k b p → Allowed m p × Belongs ws p (b .element)
-  takes-by None b p h g = absurd g
-  takes-by InsertDelete b p h g = (rw g (h .delete), rw g (edit-belongs ws (delete (b .element)) (h .star)))
-  takes-by Chain b p h g = let s = g .leads .step in (rw (g .is) (s .allowed), rw (g .is) (edit-belongs ws (replace (b .element) (b .i) (g .k)) (s .can)))
-  takes-by Cycle b p h g = let s = g .leads .step in (rw (g .is) (s .allowed), rw (g .is) (edit-belongs ws (replace (b .element) (b .i) (g .k)) (s .can)))
+  takes-by : (k : Condition) (s : Spot) (q p : ℕ) → BreachOf ws m (ForbiddenBelow ws m) k s q → TakesFor ws m k s p → Allowed m p × Belongs ws p (s .element)
+  takes-by None s q p h g = absurd g
+  takes-by InsertDelete s q p h g = (rw g (h .delete), rw g (edit-belongs ws (delete (s .element)) (h .star)))
+  takes-by Chain s q p h g = let l = g .leads .step in (rw (g .is) (l .allowed), rw (g .is) (edit-belongs ws (replace (s .element) (s .i) (g .k)) (l .can)))
+  takes-by Cycle s q p h g = let l = g .leads .step in (rw (g .is) (l .allowed), rw (g .is) (edit-belongs ws (replace (s .element) (s .i) (g .k)) (l .can)))
 
-  pub takes-allowed : (b : Breach) (p : ℕ) → IsBreach ws m b → Takes ws m (b .condition) b p → Allowed m p
-  takes-allowed b p h g = takes-by (b .condition) b p h g .0
+  module _ (s : Spot) (p : ℕ) (f : FirstSpot (IsBreach ws m) s) (g : Takes ws m s p) where
+    pub takes-allowed : Allowed m p
+    takes-allowed = takes-by (s .condition) s (f .broken .0) p (f .broken .1) g .0
 
-  pub takes-own : (b : Breach) (p : ℕ) → IsBreach ws m b → Takes ws m (b .condition) b p → Belongs ws p (b .element)
-  takes-own b p h g = takes-by (b .condition) b p h g .1
+    pub takes-own : Belongs ws p (s .element)
+    takes-own = takes-by (s .condition) s (f .broken .0) p (f .broken .1) g .1
 
-  pub takes-below : (b : Breach) (p : ℕ) → IsBreach ws m b → Takes ws m (b .condition) b p → p < privileges ws
-  takes-below b p h g = belongs-below (takes-own b p h g)
+    pub takes-below : p < privileges ws
+    takes-below = belongs-below takes-own
 
 -- the rule has one outcome
 pub mends-one : {ws m n o : List ℕ} {c d : ℕ} → Mends ws m n c → Mends ws m o d → (n ≡ o) × (c ≡ d)
 mends-one (done q) (done r) = (refl, refl)
-mends-one {ws} {m} (done q) (more b p f g r) = absurd (clean-none ws m q b (f .breach))
-mends-one {ws} {m} (more b p f g r) (done q) = absurd (clean-none ws m q b (f .breach))
-mends-one {ws} {m} {n} {o} (more {c = c} b p f g r) (more {c = d} b′ p′ f′ g′ r′) =
-    let e : b ≡ b′ = first-one ws m f f′ in
-    let g″ : Takes ws m (b .condition) b p′ = rw (← e) at g′ in
-    let h : p ≡ p′ = takes-one ws m (b .condition) b p p′ g g″ in
+mends-one {ws} {m} (done q) (more s p f g r) = absurd (clean-none ws m q s (f .broken .0) (f .broken .1))
+mends-one {ws} {m} (more s p f g r) (done q) = absurd (clean-none ws m q s (f .broken .0) (f .broken .1))
+mends-one {ws} {m} {n} {o} (more {c = c} s p f g r) (more {c = d} s′ p′ f′ g′ r′) =
+    let e : s ≡ s′ = spot-one f f′ in
+    let g″ : Takes ws m s p′ = rw (← e) at g′ in
+    let h : p ≡ p′ = takes-one ws m s p p′ g g″ in
     let r″ : Mends ws (set m p 2) o d = rw (← h) at r′ in
     let i = mends-one r r″ in
     (i .0, ap suc (i .1))
@@ -70,7 +74,7 @@ mends-one {ws} {m} {n} {o} (more {c = c} b p f g r) (more {c = d} b′ p′ f′
 -- the mended policy passes
 pub mends-clean : {ws m n : List ℕ} {c : ℕ} → Mends ws m n c → Clean ws n
 mends-clean (done q) = q
-mends-clean (more b p f g r) = mends-clean r
+mends-clean (more s p f g r) = mends-clean r
 
 -- a clean policy is copied
 pub clean-mends : {ws m n : List ℕ} {c : ℕ} → Clean ws m → Mends ws m n c → (n ≡ m) × (c ≡ 0)
@@ -94,24 +98,24 @@ lower-step m n p a h = record { size = h .size ∙ length-set m p 2; each = λ q
 
 pub mends-lowered : {ws m n : List ℕ} {c : ℕ} → Mends ws m n c → Lowered m n
 mends-lowered (done q) = record { size = refl; each = λ p. inl refl }
-mends-lowered {ws} {m} {n} (more b p f g r) = lower-step m n p (takes-allowed ws m b p (f .breach) g) (mends-lowered r)
+mends-lowered {ws} {m} {n} (more s p f g r) = lower-step m n p (takes-allowed ws m s p f g) (mends-lowered r)
 
 -- its count is the number of marks changed
 pub mends-count : {ws m n : List ℕ} {c : ℕ} → Mends ws m n c → c ≡ changes m n (privileges ws)
 mends-count {ws} {m} (done q) = sym (changes-none m (privileges ws))
-mends-count {ws} {m} {n} (more b p f g r) =
-    let a : Allowed m p = takes-allowed ws m b p (f .breach) g in
+mends-count {ws} {m} {n} (more s p f g r) =
+    let a : Allowed m p = takes-allowed ws m s p f g in
     let low = marked-within m p (omega arith) in
     let l = mends-lowered r in
     let e : Forbidden n p = elim (l .each p) [ inl h ↦ h ∙ taken-here m p low | inr h ↦ h .1 ] in
-    omega (arith, mends-count r, changes-more m p low n a e (privileges ws) (takes-below ws m b p (f .breach) g))
+    omega (arith, mends-count r, changes-more m p low n a e (privileges ws) (takes-below ws m s p f g))
 
 -- and never more than were allowed at the start
 pub mends-bound : {ws m n : List ℕ} {c : ℕ} → Mends ws m n c → c + allowedIn n (privileges ws) ≡ allowedIn m (privileges ws)
 mends-bound (done q) = omega arith
-mends-bound {ws} {m} (more b p f g r) =
-    let a : Allowed m p = takes-allowed ws m b p (f .breach) g in
-    omega (arith, mends-bound r, allowed-less m p (marked-within m p (omega arith)) a (privileges ws) (takes-below ws m b p (f .breach) g))
+mends-bound {ws} {m} (more s p f g r) =
+    let a : Allowed m p = takes-allowed ws m s p f g in
+    omega (arith, mends-bound r, allowed-less m p (marked-within m p (omega arith)) a (privileges ws) (takes-below ws m s p f g))
 
 add-suc-one : (c d : ℕ) → c + 1 + d ≡ c + suc d
 add-suc-one c d = omega arith
@@ -119,7 +123,7 @@ add-suc-one c d = omega arith
 -- following the rule, and then being clean, is mending
 follows-mends : {ws m n o : List ℕ} {c d : ℕ} → Follows ws m n c → Mends ws n o d → Mends ws m o (c + d)
 follows-mends {ws} {m} {o = o} {d = d} start r = rw (zero-add d) r
-follows-mends {ws} {m} {o = o} {d = d} (take {c = c} b p f g t) r = let s = follows-mends f (more b p g t r) in rw (add-suc-one c d) s
+follows-mends {ws} {m} {o = o} {d = d} (take {c = c} s p f g t) r = let whole = follows-mends f (more s p g t r) in rw (add-suc-one c d) whole
 
 pub follows-done : {ws m n : List ℕ} {c : ℕ} → Follows ws m n c → Clean ws n → Mends ws m n c
 follows-done {c = c} f q = rw (add-zero c) at (follows-mends f (done q))
@@ -127,11 +131,11 @@ follows-done {c = c} f q = rw (add-zero c) at (follows-mends f (done q))
 -- one who follows it twice has followed it
 pub follows-trans : {ws m n o : List ℕ} {c d : ℕ} → Follows ws m n c → Follows ws n o d → Follows ws m o (c + d)
 follows-trans {c = c} f start = rw (add-zero c) f
-follows-trans {c = c} f (take {c = d} b p g h t) = rw (← add-assoc c d 1) (take b p (follows-trans f g) h t)
+follows-trans {c = c} f (take {c = d} s p g h t) = rw (← add-assoc c d 1) (take s p (follows-trans f g) h t)
 
 -- the count so far is at most the marks allowed at the start
 pub follows-bound : {ws m n : List ℕ} {c : ℕ} → Follows ws m n c → c + allowedIn n (privileges ws) ≡ allowedIn m (privileges ws)
 follows-bound start = omega arith
-follows-bound {ws} {m} (take {n = n} b p f g t) =
-    let a : Allowed n p = takes-allowed ws n b p (g .breach) t in
-    omega (arith, follows-bound f, allowed-less n p (marked-within n p (omega arith)) a (privileges ws) (takes-below ws n b p (g .breach) t))
+follows-bound {ws} {m} (take {n = n} s p f g t) =
+    let a : Allowed n p = takes-allowed ws n s p g t in
+    omega (arith, follows-bound f, allowed-less n p (marked-within n p (omega arith)) a (privileges ws) (takes-below ws n s p g t))

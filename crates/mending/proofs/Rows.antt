@@ -1,22 +1,21 @@
 -- The rows that a choice's marks were read into, when one of its marks is taken: one bit of each is the other one. Assumes nothing.
 use Prim.Native.Nat.{ℕ, _<_}
-use mathlib.Core.Path.{_≡_, sym, subst, _∙_}
+use mathlib.Core.Path.{_≡_, sym, _∙_}
+use mathlib.Core.Logic.{_≢_, _⊎_, inl, inr}
 use mathlib.Core.Bool.{Bool, true, false, not}
 use mathlib.Core.List.{List}
 use native.Mathlib.Decide.{ℕ-discrete}
 use native.Mathlib.Omega.{arith}
-use lib.ListN.{length, getD, set, length-set}
-use lib.Seq.{getD-set-same, getD-set-other}
-use Rattle.table.specs.Lowest.{Tells}
-use Rattle.table.specs.Privilege.{replaceIn, ReplaceableIn}
+use lib.ListN.{length, getD, set}
+use Rattle.table.specs.steps.Found.{Tells}
+use Rattle.table.specs.steps.Numbering.{replaceIn, ReplaceableIn}
 use Rattle.table.specs.declared.privilege.Numbering.{Numbering}
 use Rattle.table.proofs.Lowest.{tells-as}
 use Rattle.table.proofs.Privileges.{replace-in-one}
-use Rattle.verdict.specs.Reached.{bit, marked, Square}
-use Rattle.verdict.specs.Squares.{MarkedIn, StepIn, Read, Toggled}
+use Rattle.policy.specs.steps.Squares.{marked, Square, MarkedIn, StepIn, Read, Toggled}
 use Rattle.mending.proofs.Counting.{taken-here, taken-other}
 
-module _ {m : List ℕ} {n : Numbering} {i k : ℕ} (step : StepIn m n i k) (low : replaceIn n i k < length m) (few : i < 16) where
+module _ {m : List ℕ} {n : Numbering} {i k : ℕ} (step : StepIn m n i k) (low : replaceIn n i k < length m) where
   abbrev taken : List ℕ
   taken = set m (replaceIn n i k) 2
 
@@ -28,21 +27,21 @@ module _ {m : List ℕ} {n : Numbering} {i k : ℕ} (step : StepIn m n i k) (low
   other mark a b r d =
       tells-as (λ s. record { can = s .can; is = kept d (s .can) ∙ s .is }) (λ s. record { can = s .can; is = sym (kept d (s .can)) ∙ s .is }) r
 
-  rows-taken : {mark row : ℕ} {rows : List ℕ} → Square (n .count) (MarkedIn mark m n) rows → Toggled k (getD rows i 0) row
-      → Tells (MarkedIn mark taken n i k) (not (marked rows i k)) → Square (n .count) (MarkedIn mark taken n) (set rows i row)
-  rows-taken {mark} {row} {rows} s t now = record { size = length-set rows i row ∙ s .size; tells = λ a b la lb. go a b la lb (ℕ-discrete a i) (ℕ-discrete b k) }
+  rows-taken : {mark : ℕ} {rows new : List ℕ} → Square (n .count) (MarkedIn mark m n) rows → Toggled i k rows new
+      → Tells (MarkedIn mark taken n i k) (not (marked rows i k)) → Square (n .count) (MarkedIn mark taken n) new
+  rows-taken {mark} {rows} {new} s t now = record { size = t .size; tells = λ a b la lb. go a b la lb (ℕ-discrete a i) (ℕ-discrete b k) }
     where
-      same : getD (set rows i row) i 0 ≡ row
-      same = getD-set-same rows i row 0 (omega (arith, s .size))
+      still : (a b : ℕ) → a < n .count → b < n .count → (a ≢ i) ⊎ (b ≢ k) → ¬ ((a ≡ i) × (b ≡ k)) → Tells (MarkedIn mark taken n a b) (marked new a b)
+      still a b la lb o d = rw (t .rest a b o) (other mark a b (marked rows a b) d (s .tells a b la lb))
 
-      go : (a b : ℕ) → a < n .count → b < n .count → Dec (a ≡ i) → Dec (b ≡ k) → Tells (MarkedIn mark taken n a b) (marked (set rows i row) a b)
-      go a b la lb (no d) e = rw (getD-set-other rows i a row 0 d) (other mark a b (marked rows a b) (λ q. d (q .0)) (s .tells a b la lb))
-      go a b la lb (yes p) (no d) = rw (p, same, t .rest b d) (other mark i b (bit (getD rows i 0) b) (λ q. d (q .1)) (subst (λ (x : ℕ). Tells (MarkedIn mark m n x b) (marked rows x b)) p (s .tells a b la lb)))
-      go a b la lb (yes p) (yes q) = rw (p, q, same, t .here) now
+      go : (a b : ℕ) → a < n .count → b < n .count → Dec (a ≡ i) → Dec (b ≡ k) → Tells (MarkedIn mark taken n a b) (marked new a b)
+      go a b la lb (no d) e = still a b la lb (inl d) (λ q. d (q .0))
+      go a b la lb (yes p) (no d) = still a b la lb (inr d) (λ q. d (q .1))
+      go a b la lb (yes p) (yes q) = rw (p, q, t .here) now
 
   -- both squares after the mark was taken
-  pub read-taken : {allowed forbidden : List ℕ} {a f : ℕ} → Read m n allowed forbidden → Toggled k (getD allowed i 0) a → Toggled k (getD forbidden i 0) f
-      → Read taken n (set allowed i a) (set forbidden i f)
+  pub read-taken : {allowed forbidden newAllowed newForbidden : List ℕ} → Read m n allowed forbidden → Toggled i k allowed newAllowed
+      → Toggled i k forbidden newForbidden → Read taken n newAllowed newForbidden
   read-taken {allowed} {forbidden} r s t = record {
     steps = rows-taken (r .steps) s (gone (marked allowed i k) (r .steps .tells i k (step .can .from) (step .can .to)));
     bans = rows-taken (r .bans) t (come (marked forbidden i k) (r .bans .tells i k (step .can .from) (step .can .to)));

@@ -2,35 +2,30 @@
 -- privilege of x leaves it told which types have something forbidden below them, and no type before x comes to have a breach. Assumes
 -- nothing.
 use Prim.Native.Nat.{ℕ, _+_, _≤_, _<_}
-use mathlib.Core.Path.{_≡_, refl, sym, subst, _∙_}
-use mathlib.Core.Logic.{_≢_, _⊎_, inl, inr}
+use mathlib.Core.Path.{_≡_, sym, subst, _∙_}
+use mathlib.Core.Logic.{_≢_}
 use mathlib.Core.List.{List}
 use native.Mathlib.Decide.{ℕ-discrete}
 use native.Mathlib.Omega.{arith}
-use borrow.Author.Tests.{ltb-true, ltb-false}
-use lib.Dec.{ltb}
 use lib.ListN.{length, getD, set, length-set}
 use Rattle.table.specs.Words.{types}
 use Rattle.table.specs.Rule.{childAt, countOf}
-use Rattle.table.specs.Privilege.{Belongs, privileges, insertOf, deleteOf, insert, delete, replace}
+use Rattle.table.specs.Privilege.{Belongs, privileges, insertOf, deleteOf, replace}
+use Rattle.table.specs.Below.{Below, here, down}
 use Rattle.table.specs.Check.{Accepted}
+use Rattle.table.proofs.Belows.{below-trans}
 use Rattle.table.proofs.Privileges.{belongs-one, belongs-below, edit-belongs}
 use Rattle.table.proofs.Facts.{facts, child-at}
-use Rattle.table.proofs.Lowest.{tells-as, tells-by}
-use Rattle.verdict.specs.Marks.{Allowed, Forbidden, Policy}
-use Rattle.table.specs.Below.{Below, here, down}
-use Rattle.verdict.specs.Below.{ForbiddenBelow, Lows}
-use Rattle.verdict.specs.Breaches.{IsBreach, FirstBreach, InsertDeleteBreach, ChainBreach, CycleBreach}
-use Rattle.verdict.specs.declared.Breach.{Breach}
-use Rattle.verdict.specs.declared.Condition.the-variants.{InsertDelete, Chain, Cycle}
-use Rattle.verdict.proofs.Policies.{marked-within}
-use Rattle.verdict.proofs.Forced.{reached-mono, reached-replaceable}
-use Rattle.verdict.proofs.Breached.{reached-from}
-use Rattle.table.proofs.Belows.{below-trans}
-use Rattle.verdict.proofs.Lows.{below-small}
-use Rattle.verdict.proofs.Firsts.{breach-cases, clean-all}
-use Rattle.mending.specs.Mends.{Takes, Mends}
-use Rattle.mending.specs.Taking.{Spoilt, CleanUpTo, Cleaned, Follows, take}
+use Rattle.policy.specs.Marks.{Allowed, Forbidden, Policy}
+use Rattle.policy.proofs.Policies.{marked-within}
+use Rattle.policy.proofs.Reaches.{reached-from, reached-mono}
+use Rattle.verdict.specs.Below.{ForbiddenBelow}
+use Rattle.verdict.specs.Breaches.{Spot, BreachOf, IsBreach}
+use Rattle.verdict.specs.declared.Condition.{Condition}
+use Rattle.verdict.specs.declared.Condition.the-variants.{None, InsertDelete, Chain, Cycle}
+use Rattle.verdict.proofs.Firsts.{clean-all, none-clean}
+use Rattle.mending.specs.Mends.{Mends}
+use Rattle.mending.specs.steps.Taking.{Spoilt, CleanUpTo, Cleaned, Follows, take, TakenAt}
 use Rattle.mending.proofs.Counting.{allowedIn, allowed-most, allowed-less, taken-here, taken-other}
 use Rattle.mending.proofs.Mended.{takes-allowed, takes-own, follows-bound, follows-trans, follows-done}
 
@@ -42,24 +37,20 @@ child-of : {ws : List ℕ} {x i : ℕ} → Accepted ws → x < types ws → i < 
 child-of {ws} {x} {i} a l h = down (childAt ws x i) (child-at a x i l h) here
 
 -- a breach at x: something is forbidden below x
-pub breach-spoils : {ws m : List ℕ} → Accepted ws → (b : Breach) → IsBreach ws m b → (q : ℕ) × ForbiddenBelow ws m (b .element) q
-breach-spoils {ws} {m} a b h = go (breach-cases ws m b h)
+breach-spoils : {ws m : List ℕ} → Accepted ws → (s : Spot) (p : ℕ) → IsBreach ws m s p → (q : ℕ) × ForbiddenBelow ws m (s .element) q
+breach-spoils {ws} {m} a s p h = go (s .condition) h
   where
-    go : ((b .condition ≡ InsertDelete) × InsertDeleteBreach ws m b) ⊎ ((b .condition ≡ Chain) × ChainBreach ws m b) ⊎ ((b .condition ≡ Cycle) × CycleBreach ws m b)
-        → (q : ℕ) × ForbiddenBelow ws m (b .element) q
-    go (inl (k, g)) = (b .privilege, forbidden-up (record { below = g .below; forbidden = g .forbidden }) (child-of a (g .star .type) (omega (arith, facts a .star-one (b .element) (g .star)))))
-    go (inr (inl (k, g))) = (
-      b .privilege,
+    go : (c : Condition) → BreachOf ws m (ForbiddenBelow ws m) c s p → (q : ℕ) × ForbiddenBelow ws m (s .element) q
+    go None g = absurd g
+    go InsertDelete g = (p, forbidden-up (g .below) (child-of a (g .star .type) (omega (arith, facts a .star-one (s .element) (g .star)))))
+    go Chain g = (
+      p,
       record {
-        below = record {
-          type = b .element;
-          belongs = rw (g .is) (edit-belongs ws (replace (b .element) (b .i) (b .j)) (reached-replaceable (g .choice) (g .reached) (g .apart)));
-          below = here;
-        };
+        below = record { type = s .element; belongs = rw (g .is) (edit-belongs ws (replace (s .element) (s .i) (s .j)) (g .can)); below = here };
         forbidden = g .forbidden;
       },
     )
-    go (inr (inr (k, g))) = (b .privilege, forbidden-up (record { below = g .below; forbidden = g .forbidden }) (child-of a (g .choice .type) (reached-from (g .reached))))
+    go Cycle g = (p, forbidden-up (g .below) (child-of a (g .choice .type) (reached-from (g .reached))))
 
 -- one allowed privilege p of x is forbidden, with something below x forbidden already
 module _ {ws m : List ℕ} {x p q₀ : ℕ} (own : Belongs ws p x) (a : Allowed m p) (f₀ : ForbiddenBelow ws m x q₀) where
@@ -89,62 +80,44 @@ module _ {ws m : List ℕ} {x p q₀ : ℕ} (own : Belongs ws p x) (a : Allowed 
       let d : q ≢ p = λ e. let g : Forbidden m p = rw e at (f .forbidden) in omega arith in
       (q, record { below = f .below; forbidden = taken-other m p low q d ∙ f .forbidden })
 
-  pub spoilt-stays : (lows : List ℕ) → Spoilt ws m lows → Spoilt ws (set m p 2) lows
-  spoilt-stays lows s y l = tells-as (spoilt-after y) (spoilt-before y) (ltb (getD lows y 0) 65535) (s y l)
+  pub spoilt-stays : (low : List ℕ) → Spoilt ws m low → Spoilt ws (set m p 2) low
+  spoilt-stays low s = record {
+    onto = λ y k l h. spoilt-after y (s .onto y k l h);
+    back = λ y q l f. let r = spoilt-before y (q, f) in s .back y (r .0) l (r .1);
+  }
 
-  -- a breach at another type was one before, but perhaps for its privilege
-  module _ (before : CleanUpTo ws m x) where
-    clear : (c : Breach) → c .element ≢ x → IsBreach ws (set m p 2) c → (d : Breach) × IsBreach ws m d × (d .element ≡ c .element)
-    clear c d h = go (breach-cases ws (set m p 2) c h)
-      where
-        go : ((c .condition ≡ InsertDelete) × InsertDeleteBreach ws (set m p 2) c) ⊎ ((c .condition ≡ Chain) × ChainBreach ws (set m p 2) c)
-            ⊎ ((c .condition ≡ Cycle) × CycleBreach ws (set m p 2) c) → (d : Breach) × IsBreach ws m d × (d .element ≡ c .element)
-        go (inl (k, g)) =
-            let s = spoilt-before (childAt ws (c .element) 0) (c .privilege, record { below = g .below; forbidden = g .forbidden }) in (
-              record { condition = InsertDelete; element = c .element; i = 0; j = 0; privilege = s .0 },
-              record {
-                star = g .star;
-                zero-i = refl;
-                zero-j = refl;
-                insert = allowed-before (insertOf ws (c .element)) (g .insert);
-                delete = allowed-before (deleteOf ws (c .element)) (g .delete);
-                below = s .1 .below;
-                forbidden = s .1 .forbidden;
-              },
-              refl,
-            )
-        go (inr (inl (k, g))) =
-            let other : c .privilege ≢ p = λ e. d (belongs-one (rw (← e, g .is) (edit-belongs ws (replace (c .element) (c .i) (c .j)) (reached-replaceable (g .choice) (g .reached) (g .apart)))) own) in (
-              record { condition = Chain; element = c .element; i = c .i; j = c .j; privilege = c .privilege },
-              record {
-                choice = g .choice;
-                reached = reached-mono allowed-before (g .reached);
-                apart = g .apart;
-                is = g .is;
-                forbidden = sym (taken-other m p low (c .privilege) other) ∙ g .forbidden;
-              },
-              refl,
-            )
-        go (inr (inr (k, g))) =
-            let s = spoilt-before (childAt ws (c .element) (c .i)) (c .privilege, record { below = g .below; forbidden = g .forbidden }) in (
-              record { condition = Cycle; element = c .element; i = c .i; j = c .i; privilege = s .0 },
-              record {
-                choice = g .choice;
-                same = refl;
-                reached = reached-mono allowed-before (g .reached);
-                below = s .1 .below;
-                forbidden = s .1 .forbidden;
-              },
-              refl,
-            )
+  -- a spot at another type that is broken was so before, but perhaps by another privilege
+  clear : (s : Spot) (q : ℕ) → s .element ≢ x → IsBreach ws (set m p 2) s q → (r : ℕ) × IsBreach ws m s r
+  clear s q d h = go (s .condition) h
+    where
+      go : (c : Condition) → BreachOf ws (set m p 2) (ForbiddenBelow ws (set m p 2)) c s q → (r : ℕ) × BreachOf ws m (ForbiddenBelow ws m) c s r
+      go None g = absurd g
+      go InsertDelete g =
+          let b = spoilt-before (childAt ws (s .element) 0) (q, g .below) in (
+            b .0,
+            record {
+              star = g .star;
+              zero-i = g .zero-i;
+              zero-j = g .zero-j;
+              insert = allowed-before (insertOf ws (s .element)) (g .insert);
+              delete = allowed-before (deleteOf ws (s .element)) (g .delete);
+              below = b .1;
+            },
+          )
+      go Chain g =
+          let other : q ≢ p = λ e. d (belongs-one (rw (← e, g .is) (edit-belongs ws (replace (s .element) (s .i) (s .j)) (g .can))) own) in
+          (q, record { choice = g .choice; reached = reached-mono allowed-before (g .reached); can = g .can; is = g .is; forbidden = sym (taken-other m p low q other) ∙ g .forbidden })
+      go Cycle g =
+          let b = spoilt-before (childAt ws (s .element) (s .i)) (q, g .below) in
+          (b .0, record { choice = g .choice; same = g .same; reached = reached-mono allowed-before (g .reached); below = b .1 })
 
-    -- so the first breach never goes back to a lower type
-    pub clean-stays : CleanUpTo ws (set m p 2) x
-    clean-stays c h = go (ℕ-discrete (c .element) x)
-      where
-        go : Dec (c .element ≡ x) → x ≤ c .element
-        go (yes e) = omega arith
-        go (no d) = let r = clear c d h in omega (arith, before (r .0) (r .1), r .2)
+  -- so the first spot never goes back to a lower type
+  pub clean-stays : CleanUpTo ws m x → CleanUpTo ws (set m p 2) x
+  clean-stays before s q h = go (ℕ-discrete (s .element) x)
+    where
+      go : Dec (s .element ≡ x) → x ≤ s .element
+      go (yes e) = omega arith
+      go (no d) = let r = clear s q d h in before s (r .0) (r .1)
 
 -- taking a mark keeps a policy a policy
 pub policy-stays : {ws m : List ℕ} (p : ℕ) → Policy ws m → Allowed m p → Policy ws (set m p 2)
@@ -168,23 +141,22 @@ pub record Mending (ws low : List ℕ) (x : ℕ) (old new : List ℕ) (c : ℕ) 
   pub clean : CleanUpTo ws new x
 
 -- what the rule takes next is taken
-module _ {ws low : List ℕ} {x : ℕ} {old new : List ℕ} {c p : ℕ} (h : Mending ws low x old new c)
-    (t : (b : Breach) × FirstBreach ws new b × (b .element ≡ x) × Takes ws new (b .condition) b p) where
+module _ {ws low : List ℕ} {x : ℕ} {old new : List ℕ} {c p : ℕ} (h : Mending ws low x old new c) (t : TakenAt ws new x p) where
   pub next-allowed : Allowed new p
-  next-allowed = takes-allowed ws new (t .0) p (t .1 .breach) (t .3)
+  next-allowed = takes-allowed ws new (t .spot) p (t .first) (t .takes)
 
   next-own : Belongs ws p x
-  next-own = subst (λ (y : ℕ). Belongs ws p y) (t .2) (takes-own ws new (t .0) p (t .1 .breach) (t .3))
+  next-own = subst (λ (y : ℕ). Belongs ws p y) (t .here) (takes-own ws new (t .spot) p (t .first) (t .takes))
 
   pub next-within : p < length new
   next-within = marked-within new p (λ e. omega (arith, next-allowed))
 
   pub mending-take : Mending ws low x old (set new p 2) (c + 1)
   mending-take =
-      let s = breach-spoils (h .policy .accepted) (t .0) (t .1 .breach) in
-      let f : ForbiddenBelow ws new x (s .0) = subst (λ (y : ℕ). ForbiddenBelow ws new y (s .0)) (t .2) (s .1) in
+      let s = breach-spoils (h .policy .accepted) (t .spot) (t .first .broken .0) (t .first .broken .1) in
+      let f : ForbiddenBelow ws new x (s .0) = subst (λ (y : ℕ). ForbiddenBelow ws new y (s .0)) (t .here) (s .1) in
       record {
-        follows = take (t .0) p (h .follows) (t .1) (t .3);
+        follows = take (t .spot) p (h .follows) (t .first) (t .takes);
         policy = policy-stays p (h .policy) next-allowed;
         spoilt = spoilt-stays next-own next-allowed f low (h .spoilt);
         clean = clean-stays next-own next-allowed f (h .clean);
@@ -198,16 +170,10 @@ module _ {ws low : List ℕ} {x : ℕ} {old new : List ℕ} {c p : ℕ} (h : Men
 pub mending-few : {ws low : List ℕ} {x : ℕ} {old new : List ℕ} {c : ℕ} → Mending ws low x old new c → c ≤ 4096
 mending-few {ws} {old = old} h = omega (arith, follows-bound (h .follows), allowed-most old (privileges ws), facts (h .policy .accepted) .privileges-few)
 
--- the lowest numbers tell which types have something forbidden below them
-pub lows-spoilt : {ws m : List ℕ} → Policy ws m → (low : List ℕ) → Lows ws m low → Spoilt ws m low
-lows-spoilt {ws} {m} pol low h y l = tells-by (ltb (getD low y 0) 65535)
-    (λ e. (getD low y 0, h y l .here (ltb-true (getD low y 0) 65535 e)))
-    (λ e s. let top = ltb-false (getD low y 0) 65535 e in omega (arith, h y l .least (s .0) (s .1), below-small pol (s .1)))
-
 -- a type that is done, and the next
 pub mending-on : {ws low : List ℕ} {x : ℕ} {old mid new : List ℕ} {c d : ℕ} → Mending ws low x old mid c → Cleaned ws low x mid new d → Mending ws low (x + 1) old new (c + d)
 mending-on h k = record { follows = follows-trans (h .follows) (k .follows); policy = k .policy; spoilt = k .spoilt; clean = k .clean }
 
 -- where all types are done the policy is mended
 pub mending-done : {ws low old new : List ℕ} {c : ℕ} → Mending ws low (types ws) old new c → Mends ws old new c
-mending-done {ws} {new = new} h = follows-done (h .follows) (clean-all ws new (h .clean))
+mending-done {ws} {new = new} h = follows-done (h .follows) (none-clean ws new (clean-all ws new (ForbiddenBelow ws new) (h .clean)))

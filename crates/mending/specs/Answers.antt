@@ -1,19 +1,14 @@
--- What mending and judging a proposed mend answer, and what the lent result holds afterwards (document 01, "Numbers of the answers and their
+-- What mending answers, and what the lent result holds afterwards (document 01, "Numbers of the answers and their
 -- order"). Assumes nothing.
 use Prim.Native.Nat.{ℕ, _≤_, _<_}
 use mathlib.Core.Path.{_≡_}
 use mathlib.Core.List.{List, _++_}
 use lib.ListN.{length, drop}
-use Rattle.table.specs.Lowest.{LowestAt}
 use Rattle.table.specs.Privilege.{privileges}
-use Rattle.verdict.specs.Marks.{Fit, Unfit, NoPolicy, Policy}
-use Rattle.verdict.specs.Conditions.{Clean}
-use Rattle.verdict.specs.Breaches.{FirstBreach}
-use Rattle.verdict.specs.Answers.{refusal, breached, done}
+use Rattle.policy.specs.Marks.{NoPolicy, Policy}
+use Rattle.verdict.specs.Answers.{refusal, done}
 use Rattle.verdict.specs.declared.Answer.{Answer}
-use Rattle.verdict.specs.declared.Breach.{Breach}
 use Rattle.mending.specs.Mends.{Mends}
-use Rattle.mending.specs.Proposals.{Kept, changes}
 
 -- out is what was lent, after what it holds then
 pub data MendAnswer (ws marks out : List ℕ) (a : Answer) (after : List ℕ) : Type 0 where
@@ -24,23 +19,3 @@ pub data MendAnswer (ws marks out : List ℕ) (a : Answer) (after : List ℕ) : 
   -- what the rule gives, with its count, and the rest of the result as it was
   mended : {n : List ℕ} {count : ℕ} → Policy ws marks → privileges ws ≤ length out → Mends ws marks n count → a ≡ done count
       → after ≡ n ++ drop (privileges ws) out → MendAnswer ws marks out a after
-
--- every proposed mark is equal, or went from 1 to 2
-abbrev pub AllKept : List ℕ → List ℕ → List ℕ → Type 0
-AllKept ws marks proposed = (p : ℕ) → p < privileges ws → Kept marks proposed p
-
-pub data ProposeAnswer (ws marks proposed : List ℕ) (a : Answer) : Type 0 where
-  -- 1 to 11
-  refused : {number place : ℕ} → NoPolicy ws marks number place → a ≡ refusal number place → ProposeAnswer ws marks proposed a
-  -- 13 and 14
-  unfit : {number place : ℕ} → Policy ws marks → Unfit 13 (privileges ws) proposed number place → a ≡ refusal number place
-      → ProposeAnswer ws marks proposed a
-  -- 15
-  changed : {place : ℕ} → Policy ws marks → Fit (privileges ws) proposed → LowestAt (Kept marks proposed) (privileges ws) place
-      → a ≡ refusal 15 place → ProposeAnswer ws marks proposed a
-  -- 16
-  broken : {b : Breach} → Policy ws marks → Fit (privileges ws) proposed → AllKept ws marks proposed → FirstBreach ws proposed b
-      → a ≡ breached b → ProposeAnswer ws marks proposed a
-  -- accepted
-  accepted : Policy ws marks → Fit (privileges ws) proposed → AllKept ws marks proposed → Clean ws proposed
-      → a ≡ done (changes marks proposed (privileges ws)) → ProposeAnswer ws marks proposed a

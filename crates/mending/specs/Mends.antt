@@ -7,11 +7,10 @@ use mathlib.Core.Logic.{_⊎_}
 use mathlib.Core.List.{List}
 use lib.ListN.{set}
 use Rattle.table.specs.Privilege.{deleteOf, replaceOf}
-use Rattle.verdict.specs.Marks.{Allowed}
-use Rattle.verdict.specs.Reached.{Step, Reached}
+use Rattle.policy.specs.Marks.{Allowed}
+use Rattle.policy.specs.Reached.{Step, Reached}
 use Rattle.verdict.specs.Conditions.{Clean}
-use Rattle.verdict.specs.Breaches.{FirstBreach}
-use Rattle.verdict.specs.declared.Breach.{Breach}
+use Rattle.verdict.specs.Breaches.{Spot, IsBreach, FirstSpot}
 use Rattle.verdict.specs.declared.Condition.{Condition}
 use Rattle.verdict.specs.declared.Condition.the-variants.{None, InsertDelete, Chain, Cycle}
 
@@ -27,15 +26,17 @@ pub record LowestLead (ws marks : List ℕ) (x i j p : ℕ) : Type 0 where
   pub lowest : (l : ℕ) → l < k → ¬ Leads ws marks x i j l
   pub is : p ≡ replaceOf ws x i k
 
--- p is what the rule forbids at the breach b
-abbrev pub Takes : List ℕ → List ℕ → Condition → Breach → ℕ → Type 0
-Takes ws marks None b p = ⊥
-Takes ws marks InsertDelete b p = p ≡ deleteOf ws (b .element)
-Takes ws marks Chain b p = LowestLead ws marks (b .element) (b .i) (b .j) p
-Takes ws marks Cycle b p = LowestLead ws marks (b .element) (b .i) (b .j) p
+-- p is what the rule forbids at a breach of this condition at the spot s
+abbrev pub TakesFor : List ℕ → List ℕ → Condition → Spot → ℕ → Type 0
+TakesFor ws marks None s p = ⊥
+TakesFor ws marks InsertDelete s p = p ≡ deleteOf ws (s .element)
+TakesFor ws marks Chain s p = LowestLead ws marks (s .element) (s .i) (s .j) p
+TakesFor ws marks Cycle s p = LowestLead ws marks (s .element) (s .i) (s .j) p
+
+abbrev pub Takes : List ℕ → List ℕ → Spot → ℕ → Type 0
+Takes ws marks s p = TakesFor ws marks (s .condition) s p
 
 -- mending m gives n, and takes c privileges away
 pub data Mends (ws : List ℕ) : List ℕ → List ℕ → ℕ → Type 0 where
   done : {m : List ℕ} → Clean ws m → Mends ws m m 0
-  more : {m n : List ℕ} {c : ℕ} (b : Breach) (p : ℕ) → FirstBreach ws m b → Takes ws m (b .condition) b p → Mends ws (set m p 2) n c
-      → Mends ws m n (suc c)
+  more : {m n : List ℕ} {c : ℕ} (s : Spot) (p : ℕ) → FirstSpot (IsBreach ws m) s → Takes ws m s p → Mends ws (set m p 2) n c → Mends ws m n (suc c)

@@ -1,18 +1,20 @@
-// Mending type by type, in one ascending pass, each until it has no breach. Contracts cite specs/Taking and specs/Mends.
+// Mending type by type, in one ascending pass, each until it has no breach. Contracts cite specs/Mends, and specs/steps/Taking for the parts.
 ghost use mathlib.Core.Path.{_≡_};
 ghost use Prim.Native.Nat.{_<_};
 ghost use lib.ListN.{length};
 ghost use Rattle.table.specs.Words.{types};
 ghost use Rattle.table.specs.Rule.{IsChoice, IsStar};
 ghost use Rattle.table.specs.Privilege.{firstPrivilege};
-ghost use Rattle.table.specs.Order.{BottomUp};
-ghost use Rattle.verdict.specs.Marks.{Policy};
+ghost use Rattle.table.specs.steps.Order.{BottomUp};
+ghost use Rattle.policy.specs.Marks.{Policy};
 ghost use Rattle.mending.specs.Mends.{Mends};
-ghost use Rattle.mending.specs.Taking.{Spoilt, CleanUpTo, Visited, Cleaned};
+ghost use Rattle.mending.specs.steps.Taking.{Spoilt, CleanUpTo, Visited, Cleaned};
 use super::taking::next_taken;
+use policy::reach::reached_by;
+use policy::rows::read_rows;
+use policy::rows::toggle;
 use table::privilege::Numbering;
 use table::privilege::deletion;
-use table::privilege::insertion;
 use table::privilege::numbers_at;
 use table::privilege::privileges_at;
 use table::privilege::replacement;
@@ -20,15 +22,12 @@ use table::rule::Rule;
 use table::rule::children;
 use table::rule::rule_at;
 use table::words::types;
-use table::words::word_at;
+use verdict::Condition;
 use verdict::below::forbidden_lows;
 use verdict::breaches::Pair;
-use verdict::marks::mark_at;
-use verdict::reach::reached_by;
-use verdict::reach::read_rows;
-use verdict::reach::toggled;
+use verdict::breaches::star_breach;
 
-// Mends the star x: where its insert and delete are allowed and something is forbidden below its child, the delete is forbidden.
+// Mends the star x: where it has a breach, the delete is forbidden.
 fn mend_star(
     words: &[u16],
     m: &mut [u8],
@@ -40,16 +39,12 @@ fn mend_star(
     requires { ⌜ Visited (now words) (now m) (now low) x (now kids) n × IsStar (now words) x ⌝ }
     ensures { λ r. ⌜ Cleaned (now (words .entry)) (now (low .entry)) x (now (m .entry)) (now (m .exit)) r ⌝ }
 {
+    let breach = star_breach(words, m, low, x, kids, n);
+    let condition = breach.condition;
+    if let Condition::None = condition {
+        return 0;
+    }
     let delete = deletion(n);
-    if mark_at(m, insertion(n)) != 1 {
-        return 0;
-    }
-    if mark_at(m, delete) != 1 {
-        return 0;
-    }
-    if 65535 <= low[word_at(kids, 0)] {
-        return 0;
-    }
     m[delete] = 2;
     1
 }
@@ -77,8 +72,8 @@ fn mend_choice(
             return count;
         };
         m[replacement(n, i, k)] = 2;
-        allowed[i] = toggled(allowed[i], k);
-        forbidden[i] = toggled(forbidden[i], k);
+        toggle(&mut allowed, i, k);
+        toggle(&mut forbidden, i, k);
         count += 1;
     }
 }
@@ -117,7 +112,7 @@ fn mend_all(words: &[u16], order: &[u8; 256], m: &mut [u8]) -> usize
     requires { ⌜ Policy (now words) (now m) × BottomUp (now words) (now order) ⌝ }
     ensures { λ r. ⌜ Mends (now (words .entry)) (now (m .entry)) (now (m .exit)) r ⌝ }
 {
-    let mut low = [65535u16; 256];
+    let mut low = [0u16; 256];
     forbidden_lows(words, m, order, &mut low);
     let e = types(words);
     let mut count = 0;

@@ -1,19 +1,16 @@
-// What the mending rule takes next at a choice. Contracts cite specs/Taking.
-ghost use Prim.Native.Nat.{ℕ, _≤_, _<_};
-ghost use lib.ListN.{length, getD};
-ghost use mathlib.Core.Bool.{true};
-ghost use Rattle.table.specs.Lowest.{Tells};
+// What the mending rule takes next at a choice. Contracts cite specs/steps/Taking.
+ghost use Prim.Native.Nat.{ℕ, _<_};
+ghost use Rattle.table.specs.steps.Found.{Tells};
 ghost use Rattle.table.specs.Rule.{IsChoice, countOf};
-ghost use Rattle.verdict.specs.Marks.{Allowed};
-ghost use Rattle.verdict.specs.Reached.{Reached, Square};
-ghost use Rattle.verdict.specs.Squares.{StepIn, Small, Read};
-ghost use Rattle.mending.specs.Taking.{Visited, LeadsIn, LowestIn, SpoiltCycle, NextTaken};
-use table::Found;
+ghost use Rattle.policy.specs.Marks.{Allowed};
+ghost use Rattle.policy.specs.Reached.{Reached};
+ghost use Rattle.policy.specs.steps.Squares.{Square, StepIn, Small, Read};
+ghost use Rattle.mending.specs.steps.Taking.{Visited, LeadsIn, LowestIn, NextTaken};
+use policy::rows::leads;
 use table::privilege::Numbering;
-use table::words::word_at;
+use verdict::Condition;
 use verdict::breaches::Pair;
-use verdict::breaches::first_broken;
-use verdict::reach::leads;
+use verdict::breaches::breach_in;
 
 // Does k lead from i to j?
 fn is_lead(
@@ -56,23 +53,6 @@ fn lowest_lead(
     k
 }
 
-// The lowest position from which the square leads back to it, with something forbidden below the child there.
-fn first_cycle(low: &[u16; 256], kids: &[u16], square: &[u16; 16]) -> Found
-    requires { ⌜ (length (now kids) ≤ 16) × ((i : ℕ) → i < length (now kids) → getD (now kids) i 0 < 256) ⌝ }
-    ensures { λ r. ⌜ SpoiltCycle (now (low .entry)) (now (kids .entry)) (now (square .entry)) r ⌝ }
-{
-    let mut i = 0;
-    while i < kids.len() {
-        if leads(square, i, i) {
-            if low[word_at(kids, i)] < 65535 {
-                return Found::At(i);
-            }
-        }
-        i += 1;
-    }
-    Found::Nothing
-}
-
 // What the rule takes next at the choice x, whose squares tell what is reached, allowed and forbidden: the replacement of one position by another.
 pub fn next_taken(
     words: &[u16],
@@ -88,13 +68,15 @@ pub fn next_taken(
     requires { ⌜ Visited (now words) (now m) (now low) x (now kids) n × IsChoice (now words) x × Square (countOf (now words) x) (Reached (now words) (Allowed (now m)) x) (now square) × Read (now m) n (now allowed) (now forbidden) ⌝ }
     ensures { λ r. ⌜ NextTaken (now (words .entry)) (now (m .entry)) x n r ⌝ }
 {
-    let chain = first_broken(m, n, square, forbidden);
-    if let Pair::At(i, j) = chain {
-        return Pair::At(i, lowest_lead(m, n, square, allowed, i, j));
+    let breach = breach_in(words, m, low, x, kids, n, square, forbidden);
+    let condition = breach.condition;
+    if let Condition::None = condition {
+        return Pair::Nothing;
     }
-    let cycle = first_cycle(low, kids, square);
-    if let Found::At(i) = cycle {
+    let i = breach.i;
+    // At a cycle j is i. Told apart, each gets a loop of its own from the compiler.
+    if let Condition::Cycle = condition {
         return Pair::At(i, lowest_lead(m, n, square, allowed, i, i));
     }
-    Pair::Nothing
+    Pair::At(i, lowest_lead(m, n, square, allowed, i, breach.j))
 }

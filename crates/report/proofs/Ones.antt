@@ -6,7 +6,7 @@ use native.Mathlib.Omega.{arith}
 use Rattle.table.specs.Privilege.{privileges}
 use Rattle.table.proofs.Answers.{answer-one, accepted-answer}
 use Rattle.verdict.specs.declared.Breach.{Breach}
-use Rattle.verdict.proofs.Policies.{fit-not, unfit-one}
+use Rattle.policy.proofs.Policies.{fit-not, unfit-one}
 use Rattle.verdict.proofs.Firsts.{verdict-one}
 use Rattle.completion.proofs.Least.{least-one}
 use Rattle.mending.proofs.Mended.{mends-one}

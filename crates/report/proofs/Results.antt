@@ -10,18 +10,18 @@ use Rattle.table.specs.Privilege.{privileges}
 use Rattle.table.specs.Check.{Accepted}
 use Rattle.table.proofs.Answers.{accepted-answer}
 use Rattle.table.proofs.Facts.{facts}
-use Rattle.verdict.specs.Marks.{Unfit, Policy, table, marks}
+use Rattle.policy.specs.Marks.{Unfit, Policy, table, marks}
 use Rattle.verdict.specs.Breaches.{Verdict}
 use Rattle.verdict.specs.Answers.{JudgeAnswer, refused, judged}
 use Rattle.verdict.specs.declared.Breach.{Breach}
 use Rattle.verdict.specs.declared.Answer.{Answer}
-use Rattle.verdict.proofs.Policies.{policy-not, refused-number}
+use Rattle.policy.proofs.Policies.{policy-not, refused-number}
 use Rattle.completion.specs.Completions.{Completes, LeastCompletion}
 use Rattle.completion.specs.Answers as completing
 use Rattle.mending.specs.Mends.{Mends}
 use Rattle.mending.specs.Answers as mending
 use Rattle.mending.proofs.Mended.{mends-lowered}
-use Rattle.lines.specs.Text.{Raisable}
+use Rattle.lines.specs.steps.Putting.{Raisable}
 
 -- the verdict's answer, where the table is accepted
 module _ {ws ms : List ℕ} {a : Answer} (accepted : Accepted ws) where

@@ -1,3 +1,4 @@
 -- What the contracts of src/ cite.
 pub mod File
 pub mod Report
+pub mod steps

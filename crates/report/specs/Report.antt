@@ -7,12 +7,12 @@ use mathlib.Core.List.{List, [], _∷_, _++_}
 use lib.ListN.{length, take}
 use Rattle.table.specs.Privilege.{privileges}
 use Rattle.table.specs.Check.{Accepted, TableAnswer}
-use Rattle.verdict.specs.Marks.{Unfit, Policy}
+use Rattle.policy.specs.Marks.{Unfit, Policy}
 use Rattle.verdict.specs.Breaches.{conditionNumber, Verdict}
 use Rattle.verdict.specs.declared.Breach.{Breach}
 use Rattle.completion.specs.Completions.{Completes, LeastCompletion}
 use Rattle.mending.specs.Mends.{Mends}
-use Rattle.lines.specs.Text.{line, Puts}
+use Rattle.lines.specs.Text.{line}
 use Rattle.report.specs.File.{tableOf, marksOf}
 use Rattle.report.specs.declared.Text.{Text}
 
@@ -67,13 +67,6 @@ pub data Report (file text : List ℕ) : Type 0 where
       → text ≡ answerLine tableWord number place → Report file text
   accepted : {rest : List ℕ} → length file ≤ 8192 → Accepted (tableOf file) → PolicyLines (tableOf file) (marksOf file) rest
       → text ≡ answerLine tableWord 0 (privileges (tableOf file)) ++ rest → Report file text
-
--- a text that is P was put at its place, in n bytes at most
-pub record Adds (P : List ℕ → Type 0) (n : ℕ) (before : List ℕ) (at : ℕ) (after : List ℕ) (r : ℕ) : Type 0 where
-  pub text : List ℕ
-  pub is : P text
-  pub puts : Puts text before at after r
-  pub few : length text ≤ n
 
 -- the first bytes, as many as the size says, are what is printed
 pub record Reported (file : List ℕ) (t : Text) : Type 0 where

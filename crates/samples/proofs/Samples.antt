@@ -17,8 +17,9 @@ use Rattle.verdict.specs.declared.Condition.the-variants.{InsertDelete, Chain, 
 use Rattle.verdict.proofs.PolicyTests.{verdictBy, verdict-by}
 use Rattle.completion.proofs.Granting.{Outcome, none, least, Comes, outcomeBy, outcome-by}
 use Rattle.mending.specs.Mends.{Mends}
-use Rattle.mending.specs.Answers.{ProposeAnswer}
-use Rattle.mending.proofs.MendTests.{mendBy, mend-by, proposeBy, propose-by}
+use Rattle.proposing.specs.Answers.{ProposeAnswer}
+use Rattle.mending.proofs.MendTests.{mendBy, mend-by}
+use Rattle.proposing.proofs.ProposeTests.{proposeBy, propose-by}
 
 -- words and marks, with the verdict, the completion, the mend and its count; or with proposed marks and their answer
 pub data Row : Type 0 where

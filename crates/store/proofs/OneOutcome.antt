@@ -8,8 +8,10 @@ use Rattle.verdict.specs.declared.Answer.{Answer}
 use Rattle.verdict.proofs.Judged.{refusal-one, judge-one}
 use Rattle.completion.specs.Answers.{CompleteAnswer}
 use Rattle.completion.proofs.Completing.{complete-one}
-use Rattle.mending.specs.Answers.{MendAnswer, ProposeAnswer}
-use Rattle.mending.proofs.Answered.{mend-one, propose-one}
+use Rattle.mending.specs.Answers.{MendAnswer}
+use Rattle.proposing.specs.Answers.{ProposeAnswer}
+use Rattle.mending.proofs.Answered.{mend-one}
+use Rattle.proposing.proofs.Answered.{propose-one}
 use Rattle.store.specs.Outcomes.{outcomeOf, CheckAnswer, Told}
 use Rattle.store.specs.declared.Outcome.{Outcome}
 

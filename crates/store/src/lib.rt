@@ -3,11 +3,12 @@
 ghost use mathlib.Core.Path.{_≡_};
 ghost use Rattle.verdict.specs.Answers.{JudgeAnswer};
 ghost use Rattle.completion.specs.Answers.{CompleteAnswer};
-ghost use Rattle.mending.specs.Answers.{MendAnswer, ProposeAnswer};
+ghost use Rattle.mending.specs.Answers.{MendAnswer};
+ghost use Rattle.proposing.specs.Answers.{ProposeAnswer};
 ghost use Rattle.store.specs.Outcomes.{outcomeOf, CheckAnswer, Told};
 use completion::complete;
-use mending::judge_mend;
 use mending::mend;
+use proposing::judge_mend;
 use table::check_table;
 use verdict::Answer;
 use verdict::judge_policy;

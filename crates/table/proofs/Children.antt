@@ -5,10 +5,11 @@ use mathlib.Core.List.{List}
 use native.Mathlib.Omega.{arith}
 use lib.ListN.{length, getD, take, drop, length-drop}
 use lib.Seq.{length-take-le, getD-take, getD-drop}
-use Rattle.table.specs.Words.{types, entries, HasRecord, kindAt, countAt, firstAt, childList, running}
-use Rattle.table.specs.Rule.{ruleOf, ruleAt, countIn, countOf, childrenIn, childrenAt, HasChildren, childAt}
+use Rattle.table.specs.Words.{types, entries, kindAt, countAt, firstAt, running}
+use Rattle.table.specs.steps.Reading.{HasRecord, childList, HasChildren}
+use Rattle.table.specs.Rule.{ruleOf, ruleAt, countIn, countOf, childrenIn, childrenAt, childAt}
 use Rattle.table.specs.Check.{Laid, RightCount, Earlier, rankOf}
-use Rattle.table.specs.Childed.{Tiled, Childed}
+use Rattle.table.specs.steps.Childed.{Tiled, Childed}
 use Rattle.table.specs.declared.check.Check.{Check}
 use Rattle.table.specs.declared.check.Check.the-variants.{Layout, Kind, Count, Stretch, Bounds, Twice}
 use Rattle.table.proofs.Sum.{sum-part}

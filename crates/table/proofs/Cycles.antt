@@ -6,15 +6,14 @@ use native.Mathlib.Omega.{arith}
 use lib.Dec.{eqb}
 use lib.ListN.{length, getD, take, drop, length-drop}
 use lib.Seq.{getD-take, getD-drop, length-take-le}
-use Rattle.table.specs.Lowest.{Tells}
-use Rattle.table.specs.Words.{types}
+use Rattle.table.specs.steps.Found.{Tells}
+use Rattle.table.specs.Words.{types, root}
 use Rattle.table.specs.Rule.{childrenAt}
 use Rattle.table.proofs.Lowest.{tells-as}
-use Rattle.table.specs.Words.{root}
 use Rattle.table.specs.Check.{Inside}
-use Rattle.table.specs.Childed.{Childed}
-use Rattle.table.specs.Below.{BelowOne, OnCycle, FromRoot}
-use Rattle.table.specs.Flags.{MarksBelow}
+use Rattle.table.specs.steps.Childed.{Childed}
+use Rattle.table.specs.Below.{OnCycle, FromRoot}
+use Rattle.table.specs.steps.Flags.{BelowOne, MarksBelow}
 
 -- below one of its own children
 pub cycle-as : {ws kids marks : List ℕ} {t : ℕ} → Childed ws → t < types ws → kids ≡ childrenAt ws t → MarksBelow ws kids marks → Tells (OnCycle ws t) (eqb (getD marks t 0) 1)

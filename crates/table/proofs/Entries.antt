@@ -9,12 +9,13 @@ use native.Mathlib.Omega.{arith}
 use lib.ListN.{length, getD, set, take, drop, replicate, length-set, getD-replicate}
 use lib.Seq.{getD-set-same, getD-set-other}
 use Rattle.table.specs.Sum.{sumBelow}
-use Rattle.table.specs.Words.{types, entries, countAt, firstAt, childList, running}
+use Rattle.table.specs.Words.{types, entries, countAt, firstAt, running}
+use Rattle.table.specs.steps.Reading.{childList}
 use Rattle.table.specs.Rule.{childrenAt, childAt, Child}
 use Rattle.table.proofs.Sum.{Falls, falls-some}
 use Rattle.table.proofs.Children.{first-running, fits, count-read, children-all, child-read, entry-read, entries-all}
-use Rattle.table.specs.Childed.{Childed}
-use Rattle.table.specs.Counts.{occurs, entriesOf}
+use Rattle.table.specs.steps.Childed.{Childed}
+use Rattle.table.specs.steps.Counts.{occurs, entriesOf}
 use Rattle.table.proofs.Sums.{occurs-none, occurs-here, occurs-not, occurs-some, occurs-among}
 
 -- the places from a on hold what the other list holds from its start

@@ -5,15 +5,16 @@ use mathlib.Core.Logic.{_⊎_, inl, inr}
 use mathlib.Core.List.{List}
 use native.Mathlib.Omega.{arith}
 use lib.ListN.{length}
-use Rattle.table.specs.Words.{types, HasRecord, kindAt, countAt, firstAt}
-use Rattle.table.specs.Rule.{ruleOf, ruleAt, kindIn, countOf, childrenAt, HasChildren, childAt, IsStar, Child}
+use Rattle.table.specs.Words.{types, kindAt, countAt, firstAt}
+use Rattle.table.specs.steps.Reading.{HasRecord, HasChildren}
+use Rattle.table.specs.Rule.{ruleOf, ruleAt, kindIn, countOf, childrenAt, childAt, IsStar, Child}
 use Rattle.table.specs.Privilege.{privileges}
 use Rattle.table.specs.Check.{RightCount, Accepted}
 use Rattle.table.specs.declared.check.Check.the-variants.{Kind, Count, Bounds, Twice, Cycle, Unreached, Total}
 use Rattle.table.proofs.Lists.{le-or-lt}
 use Rattle.table.specs.Below.{OffCycle, FromRoot}
-use Rattle.table.specs.Childed.{Tiled, Childed}
-use Rattle.table.specs.Accepting.{Ordered}
+use Rattle.table.specs.steps.Childed.{Tiled, Childed}
+use Rattle.table.specs.steps.Accepting.{Ordered}
 use Rattle.table.proofs.Children.{childed, laid-record, tiled-children, count-read, children-all}
 
 pub record Facts (ws : List ℕ) : Type 0 where

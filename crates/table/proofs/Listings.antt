@@ -10,8 +10,8 @@ use native.Mathlib.Omega.{arith}
 use lib.ListN.{length, getD, set, length-set}
 use lib.Seq.{getD-set-same, getD-set-other, ext-getD}
 use Rattle.table.proofs.Lists.{le-or-lt}
-use Rattle.table.specs.Listed.{Among, Listed}
-use Rattle.table.specs.Counts.{unpassedSum, turned}
+use Rattle.table.specs.steps.Listed.{Among, Listed}
+use Rattle.table.specs.steps.Counts.{unpassedSum, turned}
 use Rattle.table.proofs.Sums.{sum-ones, sum-none, sum-pass, sum-empty, sum-left}
 
 -- is x among the first n?

@@ -8,7 +8,8 @@ use native.Mathlib.Omega.{arith}
 use borrow.Author.Count.{below-more, below-none}
 use borrow.Author.Tests.{leb-true, leb-false, eqb-true, eqb-false}
 use lib.Dec.{leb, eqb}
-use Rattle.table.specs.Lowest.{LowestAt, Tells}
+use Rattle.table.specs.Lowest.{LowestAt}
+use Rattle.table.specs.steps.Found.{Tells}
 
 -- the search stands at i, and at no place before does Good fail
 pub record Passed (Good : ℕ → Type 0) (n i : ℕ) : Type 0 where

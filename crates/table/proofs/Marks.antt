@@ -13,10 +13,10 @@ use Rattle.table.specs.Rule.{childrenAt, Child}
 use Rattle.table.proofs.Lists.{le-or-lt}
 use Rattle.table.proofs.Lowest.{tells-eq-as}
 use Rattle.table.specs.Check.{Inside}
-use Rattle.table.specs.Childed.{Childed}
-use Rattle.table.specs.Below.{Below, here, down, BelowOne}
-use Rattle.table.specs.Listed.{Among}
-use Rattle.table.specs.Flags.{Flags, Added, MarksBelow}
+use Rattle.table.specs.steps.Childed.{Childed}
+use Rattle.table.specs.Below.{Below, here, down}
+use Rattle.table.specs.steps.Flags.{BelowOne, Flags, Added, MarksBelow}
+use Rattle.table.specs.steps.Listed.{Among}
 use Rattle.table.proofs.Listings.{listed-room, listed-keeps, listed-here, listed-more, among-more, among-new, listed-none}
 use Rattle.table.proofs.Belows.{below-trans}
 

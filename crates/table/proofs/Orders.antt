@@ -9,10 +9,10 @@ use lib.ListN.{getD}
 use Rattle.table.specs.Words.{types, root}
 use Rattle.table.specs.Rule.{childrenAt, Child}
 use Rattle.table.specs.Below.{Below, here, down, OnCycle, FromRoot}
-use Rattle.table.specs.Listed.{Among, Listed}
-use Rattle.table.specs.Order.{BottomUp}
-use Rattle.table.specs.Counts.{entriesOf, unpassedSum, turned, Taking}
-use Rattle.table.specs.Accepting.{Ordered}
+use Rattle.table.specs.steps.Listed.{Among, Listed}
+use Rattle.table.specs.steps.Order.{BottomUp}
+use Rattle.table.specs.steps.Counts.{entriesOf, unpassedSum, turned, Taking}
+use Rattle.table.specs.steps.Accepting.{Ordered}
 use Rattle.table.proofs.Belows.{below-trans}
 use Rattle.table.proofs.Sums.{sum-left, occurs-none}
 use Rattle.table.proofs.Listings.{among, listed-room, turned-at}

@@ -8,8 +8,8 @@ use lib.ListN.{length, getD, set, length-set}
 use lib.Seq.{getD-set-same}
 use Rattle.table.specs.Words.{types, root}
 use Rattle.table.specs.Rule.{childrenAt}
-use Rattle.table.specs.Childed.{Childed}
-use Rattle.table.specs.Counts.{Counts, turned, Taking, Filling}
+use Rattle.table.specs.steps.Childed.{Childed}
+use Rattle.table.specs.steps.Counts.{Counts, turned, Taking, Filling}
 use Rattle.table.proofs.Listings.{listed-keeps, turned-length, turned-at, turned-set}
 use Rattle.table.proofs.Takings.{take-start, child-low, count-some, pass-end, pass-keep, pass-take, room-child}
 

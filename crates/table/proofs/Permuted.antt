@@ -9,8 +9,8 @@ use lib.ListN.{length, getD, length-map}
 use lib.Seq.{ext-getD}
 use Rattle.table.specs.Sum.{sumBelow}
 use Rattle.table.specs.Check.{Inside}
-use Rattle.table.specs.Listed.{Among}
-use Rattle.table.specs.Counts.{unpassedSum}
+use Rattle.table.specs.steps.Listed.{Among}
+use Rattle.table.specs.steps.Counts.{unpassedSum}
 use Rattle.table.specs.Renumbered.{Permutes}
 use Rattle.table.proofs.Sums.{sum-same, sum-none, sum-pass, unpassed-among}
 use Rattle.table.proofs.Listings.{values, value-at}

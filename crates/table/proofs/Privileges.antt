@@ -11,7 +11,8 @@ use lib.Dec.{ltb}
 use Rattle.table.specs.Sum.{sumBelow}
 use Rattle.table.specs.Words.{types}
 use Rattle.table.specs.Rule.{ruleAt, kindIn, countIn, countOf, IsText, IsChoice, IsStar}
-use Rattle.table.specs.Privilege.{privilegesOf, othersOf, choicesOf, privilegesAt, firstPrivilege, privileges, Belongs, slotOf, insertOf, deleteOf, replaceOf, NumberedAs, Positions, insertIn, deleteIn, replaceIn, rowIn, ReplaceableIn, Replaceable, Edit, text, insert, delete, replace, typeOf, Offers, privilegeOf}
+use Rattle.table.specs.Privilege.{privilegesOf, privilegesAt, firstPrivilege, privileges, Belongs, slotOf, insertOf, deleteOf, replaceOf, Replaceable, Edit, text, insert, delete, replace, typeOf, Offers, privilegeOf}
+use Rattle.table.specs.steps.Numbering.{othersOf, choicesOf, NumberedAs, Positions, insertIn, deleteIn, replaceIn, rowIn, ReplaceableIn}
 use Rattle.table.specs.declared.privilege.Numbering.{Numbering}
 use Rattle.table.specs.declared.rule.Rule.{Rule}
 use Rattle.table.specs.declared.rule.Rule.the-variants.{Empty, Text, Sequence, Choice, Star}

@@ -12,8 +12,8 @@ use Rattle.table.specs.Rule.{childrenAt}
 use Rattle.table.specs.Below.{FromRoot}
 use Rattle.table.specs.Privilege.{privileges}
 use Rattle.table.specs.Check.{Laid, RightCount, Follows, Inside, Differ, Passes, Accepted}
-use Rattle.table.specs.Childed.{Childed}
-use Rattle.table.specs.Accepting.{Ordered}
+use Rattle.table.specs.steps.Childed.{Childed}
+use Rattle.table.specs.steps.Accepting.{Ordered}
 use Rattle.table.specs.Renumbered.{Permutes, Renumbered, blocks, headerOf, recordOf, kidsOf, renumber}
 use Rattle.table.specs.declared.check.Check.{Check}
 use Rattle.table.specs.declared.check.Check.the-variants.{Format, Layout, Kind, Count, Stretch, Bounds, Twice, Cycle, Unreached, Total}

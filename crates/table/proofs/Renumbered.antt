@@ -8,7 +8,7 @@ use Rattle.table.specs.Words.{types, root, kindAt, countAt, firstAt}
 use Rattle.table.specs.Rule.{ruleOf, ruleAt, kindIn, countOf, childrenAt, childAt, OfKind, Child}
 use Rattle.table.specs.Below.{Below, here, down, OnCycle, FromRoot}
 use Rattle.table.specs.Privilege.{privilegesOf, privilegesAt, firstPrivilege, privileges, Edit, text, insert, delete, replace, typeOf, Offers}
-use Rattle.table.specs.Childed.{Childed}
+use Rattle.table.specs.steps.Childed.{Childed}
 use Rattle.table.specs.Renumbered.{Renumbered, moved}
 use Rattle.table.specs.declared.rule.Rule.{Rule}
 use Rattle.table.proofs.Sums.{sum-same}

@@ -12,12 +12,12 @@ use lib.ListN.{length, getD}
 use Rattle.table.specs.Sum.{sumBelow}
 use Rattle.table.specs.Words.{types, root}
 use Rattle.table.specs.Rule.{Child}
-use Rattle.table.specs.Childed.{Childed}
+use Rattle.table.specs.steps.Childed.{Childed}
 use Rattle.table.specs.Below.{Below, here, down, OnCycle}
-use Rattle.table.specs.Listed.{Among}
-use Rattle.table.specs.Order.{BottomUp}
-use Rattle.table.specs.Counts.{entriesOf, Counts, turned, Filling}
-use Rattle.table.specs.Accepting.{Ordered, Ordering}
+use Rattle.table.specs.steps.Listed.{Among}
+use Rattle.table.specs.steps.Order.{BottomUp}
+use Rattle.table.specs.steps.Counts.{entriesOf, Counts, turned, Filling}
+use Rattle.table.specs.steps.Accepting.{Ordered, Ordering}
 use Rattle.table.proofs.Lists.{le-or-lt}
 use Rattle.table.proofs.Lowest.{told-yes, tells-eq, tells-eq-as}
 use Rattle.table.proofs.Belows.{below-trans}

@@ -3,8 +3,8 @@ use Prim.Native.Nat.{ℕ, zero, suc, _≤_}
 use mathlib.Core.Path.{_≡_, refl}
 use mathlib.Core.Logic.{_≢_}
 use native.Mathlib.Omega.{arith}
-use Rattle.table.specs.Words.{Widened}
-use Rattle.table.specs.Rule.{ruleOf, firstIn, countIn, ReadAs}
+use Rattle.table.specs.steps.Reading.{Widened, ReadAs}
+use Rattle.table.specs.Rule.{ruleOf, firstIn, countIn}
 use Rattle.table.specs.declared.rule.Rule.{Rule}
 use Rattle.table.specs.declared.rule.Rule.the-variants.{Empty}
 

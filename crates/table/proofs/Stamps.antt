@@ -10,14 +10,15 @@ use borrow.Author.Count.{below-more}
 use lib.ListN.{length, getD, set, take, drop, replicate, getD-replicate, length-set, length-take}
 use lib.Seq.{getD-set-same, getD-set-other}
 use Rattle.table.specs.Sum.{sumBelow}
-use Rattle.table.specs.Words.{Within, Widened, types, kindAt, countAt, firstAt, running}
+use Rattle.table.specs.Words.{types, kindAt, countAt, firstAt, running}
+use Rattle.table.specs.steps.Reading.{Within, Widened}
 use Rattle.table.specs.Rule.{ruleOf, ruleAt, childrenAt}
 use Rattle.table.specs.Privilege.{privilegesOf, privilegesAt, firstPrivilege, privileges}
 use Rattle.table.specs.Check.{Headed, Laid, RightCount, Inside, Differ, Passes, Accepted}
-use Rattle.table.specs.Childed.{Childed}
-use Rattle.table.specs.Counts.{occurs, entriesOf}
-use Rattle.table.specs.Accept.{Countable, Stamped, Totals, TypesPass}
-use Rattle.table.specs.Accepting.{Ordered}
+use Rattle.table.specs.steps.Childed.{Childed}
+use Rattle.table.specs.steps.Counts.{occurs, entriesOf}
+use Rattle.table.specs.steps.Accept.{Countable, Stamped, Totals, TypesPass}
+use Rattle.table.specs.steps.Accepting.{Ordered}
 use Rattle.table.specs.declared.check.Check.{Check}
 use Rattle.table.specs.declared.check.Check.the-variants.{Format, Layout, Kind, Count, Stretch, Bounds, Twice, Cycle, Unreached, Total}
 use Rattle.table.specs.declared.rule.Rule.{Rule}

@@ -13,8 +13,8 @@ use lib.Dec.{eqb}
 use lib.ListN.{getD}
 use Rattle.table.specs.Sum.{sumBelow}
 use Rattle.table.proofs.Sum.{sum-more, sum-mono, sum-part, Falls, falls-some}
-use Rattle.table.specs.Listed.{Among}
-use Rattle.table.specs.Counts.{occurs, unpassed, unpassedSum}
+use Rattle.table.specs.steps.Listed.{Among}
+use Rattle.table.specs.steps.Counts.{occurs, unpassed, unpassedSum}
 
 pub sum-same : {f g : ℕ → ℕ} (n : ℕ) → ((k : ℕ) → k < n → f k ≡ g k) → sumBelow f n ≡ sumBelow g n
 unfolding sumBelow

@@ -4,7 +4,7 @@ use mathlib.Core.Path.{_≡_, refl}
 use mathlib.Core.List.{List}
 use native.Mathlib.Omega.{arith}
 use lib.ListN.{length, getD}
-use Rattle.table.specs.Lowest.{Lowest}
+use Rattle.table.specs.steps.Found.{Lowest}
 use Rattle.table.specs.Words.{types, entries, root, kindAt, countAt, firstAt, running}
 use Rattle.table.specs.Rule.{ruleAt, kindIn, countOf, childrenAt, OfKind}
 use Rattle.table.specs.Privilege.{privilegesAt, firstPrivilege, privileges, Belongs, Replaceable}

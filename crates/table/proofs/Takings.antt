@@ -10,9 +10,9 @@ use lib.ListN.{length, getD, set, length-set}
 use lib.Seq.{getD-set-same, getD-set-other}
 use Rattle.table.specs.Words.{types, root}
 use Rattle.table.specs.Rule.{childrenAt, Child}
-use Rattle.table.specs.Childed.{Childed}
-use Rattle.table.specs.Listed.{Among}
-use Rattle.table.specs.Counts.{occurs, entriesOf, unpassedSum, Counts, Taking}
+use Rattle.table.specs.steps.Childed.{Childed}
+use Rattle.table.specs.steps.Listed.{Among}
+use Rattle.table.specs.steps.Counts.{occurs, entriesOf, unpassedSum, Counts, Taking}
 use Rattle.table.proofs.Sums.{sum-none, sum-pass, sum-empty, sum-reads, occurs-none, occurs-here, occurs-not, occurs-mono}
 use Rattle.table.proofs.Listings.{among, listed-room, listed-keeps, listed-here, listed-more, among-new}
 use Rattle.table.proofs.Entries.{child-entries}

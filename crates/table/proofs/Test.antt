@@ -8,7 +8,7 @@ use native.Mathlib.Nat.{eq-or-lt-of-le, suc-inj}
 use native.Mathlib.Omega.{arith}
 use borrow.Author.Count.{below-none}
 use lib.Dec.{T, ltb, leb, eqb, ltb→lt, lt→ltb, leb→le, le→leb, eqb→eq, eqb-refl, T-not, not-T}
-use Rattle.table.specs.Lowest.{Lowest}
+use Rattle.table.specs.steps.Found.{Lowest}
 use Rattle.table.specs.declared.Found.{Found}
 use Rattle.table.specs.declared.Found.the-variants.{At, Nothing}
 

@@ -1,8 +1,7 @@
--- Below (document 01, "The three conditions"): a type X is below Y if X is Y or can be reached from Y by going from types to their children.
--- On a cycle, and reached from the root (document 02, order 2). Assumes nothing.
-use Prim.Native.Nat.{ℕ, _<_}
+-- "A type X is below Y if X is Y or can be reached from Y by going from types to their children" (document 01, "The three conditions"); "a type on
+-- a cycle" and "not reached from the root" (document 02, order 2). Assumes nothing.
+use Prim.Native.Nat.{ℕ}
 use mathlib.Core.List.{List}
-use lib.ListN.{length, getD}
 use Rattle.table.specs.Words.{root}
 use Rattle.table.specs.Rule.{Child}
 
@@ -10,12 +9,6 @@ use Rattle.table.specs.Rule.{Child}
 pub data Below (ws : List ℕ) : ℕ → ℕ → Type 0 where
   here : {x : ℕ} → Below ws x x
   down : {x y : ℕ} (z : ℕ) → Child ws y z → Below ws x z → Below ws x y
-
--- x is below one of the types of a list
-pub record BelowOne (ws list : List ℕ) (x : ℕ) : Type 0 where
-  pub at : ℕ
-  pub within : at < length list
-  pub below : Below ws x (getD list at 0)
 
 -- t is on a cycle: it is below one of its own children
 pub record OnCycle (ws : List ℕ) (t : ℕ) : Type 0 where

@@ -1,5 +1,6 @@
--- What a run of words must hold to be a table, as ten checks made in the order of their ranks, and what checking it answers
--- (document 01, "The schema table" and "Numbers of the answers and their order"; document 02, order 2). Assumes nothing.
+-- "Each answer has a number and a place. Checks run in number order; the place is the lowest at which that check fails, and 0 where none is named"
+-- (document 01, "Numbers of the answers and their order", with its table of numbers, and "The schema table"); 19 "stands between 7 and 8" (document
+-- 02, order 2), so the order of the checks is a rank of its own. Assumes nothing.
 use Prim.Native.Nat.{ℕ, _+_, _*_, _≤_, _<_}
 use mathlib.Core.Path.{_≡_}
 use mathlib.Core.Logic.{_≢_}

@@ -1,4 +1,4 @@
--- What the contracts of src/ cite, a file for each notion.
+-- What the contracts of src/ cite, a file for each notion; steps holds what only the building blocks cite.
 pub mod Sum
 pub mod Lowest
 pub mod Words
@@ -6,12 +6,6 @@ pub mod Rule
 pub mod Below
 pub mod Privilege
 pub mod Check
-pub mod Childed
-pub mod Listed
-pub mod Order
-pub mod Counts
-pub mod Flags
-pub mod Accepting
-pub mod Accept
 pub mod Plus
 pub mod Renumbered
+pub mod steps

@@ -1,22 +1,9 @@
--- The lowest place at which something fails (document 01, "Numbers of the answers and their order"): one definition for every numbered
+-- "The place is the lowest at which that check fails" (document 01, "Numbers of the answers and their order"): one definition for every numbered
 -- check. Assumes nothing.
 use Prim.Native.Nat.{ℕ, _<_}
-use mathlib.Core.Bool.{Bool, true, false}
-use Rattle.table.specs.declared.Found.{Found}
-use Rattle.table.specs.declared.Found.the-variants.{At, Nothing}
 
 -- k is the lowest of n places at which Good fails
 pub record LowestAt (Good : ℕ → Type 0) (n k : ℕ) : Type 0 where
   pub within : k < n
   pub fails : ¬ Good k
   pub before : (j : ℕ) → j < k → Good j
-
--- what was found: the lowest of n places at which Good fails, or nothing where it holds at each
-abbrev pub Lowest : (ℕ → Type 0) → ℕ → Found → Type 0
-Lowest Good n (At k) = LowestAt Good n k
-Lowest Good n Nothing = (k : ℕ) → k < n → Good k
-
--- a flag that is true exactly if P holds
-abbrev pub Tells : Type 0 → Bool → Type 0
-Tells P true = P
-Tells P false = ¬ P

@@ -1,4 +1,4 @@
--- One or more steps. Assumes nothing.
+-- "One or more allowed replacements lead from i to j" (document 01, "The three conditions"): one or more steps, whatever a step is. Assumes nothing.
 use Prim.Native.Nat.{ℕ}
 
 -- one or more steps of R lead from i to j

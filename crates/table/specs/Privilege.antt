@@ -1,16 +1,14 @@
--- Privileges (document 01, "Privileges and marks"): numbered from 0, types in ascending order. Empty and sequence have none; text has one;
--- star has insert, then delete; a choice of n children has n(n - 1), one for each child and other kind. Assumes nothing.
+-- "Privileges are numbered from 0, types in ascending order. Empty and sequence have none. Text has one (change the text). Star has two: insert, then
+-- delete. A choice of n children has n(n - 1): the privilege to replace the child at position i by the kind at position j stands at
+-- first + i(n - 1) + j, less 1 if j is greater than i" (document 01, "Privileges and marks"). Assumes nothing.
 use Prim.Native.Nat.{ℕ, _+_, _-_, _*_, _≤_, _<_}
-use mathlib.Core.Path.{_≡_}
 use mathlib.Core.Logic.{_≢_}
 use mathlib.Core.Bool.{cond}
 use mathlib.Core.List.{List}
 use lib.Dec.{ltb}
-use lib.ListN.{getD}
 use Rattle.table.specs.Sum.{sumBelow}
 use Rattle.table.specs.Words.{types}
 use Rattle.table.specs.Rule.{ruleAt, countOf, IsText, IsChoice, IsStar}
-use Rattle.table.specs.declared.privilege.Numbering.{Numbering}
 use Rattle.table.specs.declared.rule.Rule.{Rule}
 use Rattle.table.specs.declared.rule.Rule.the-variants.{Empty, Text, Sequence, Choice, Star}
 
@@ -22,21 +20,6 @@ privilegesOf (Sequence first n) = 0
 privilegesOf (Choice first n) = n * (n - 1)
 privilegesOf (Star first n) = 2
 
--- those of them that are no replacements, and the number of children that can be replaced
-abbrev pub othersOf : Rule → ℕ
-othersOf Empty = 0
-othersOf Text = 1
-othersOf (Sequence first n) = 0
-othersOf (Choice first n) = 0
-othersOf (Star first n) = 2
-
-abbrev pub choicesOf : Rule → ℕ
-choicesOf Empty = 0
-choicesOf Text = 0
-choicesOf (Sequence first n) = 0
-choicesOf (Choice first n) = n
-choicesOf (Star first n) = 0
-
 -- how many type x has
 unfoldable pub privilegesAt : List ℕ → ℕ → ℕ
 privilegesAt ws x = privilegesOf (ruleAt ws x)
@@ -44,10 +27,6 @@ privilegesAt ws x = privilegesOf (ruleAt ws x)
 -- the first privilege of type x
 unfoldable pub firstPrivilege : List ℕ → ℕ → ℕ
 firstPrivilege ws x = sumBelow (privilegesAt ws) x
-
--- a number for each type: its first privilege
-abbrev pub Firsts : List ℕ → List ℕ → Type 0
-Firsts ws firsts = (x : ℕ) → x < types ws → getD firsts x 0 ≡ firstPrivilege ws x
 
 -- V, the number of privileges
 unfoldable pub privileges : List ℕ → ℕ
@@ -75,39 +54,6 @@ deleteOf ws x = firstPrivilege ws x + 1
 
 unfoldable pub replaceOf : List ℕ → ℕ → ℕ → ℕ → ℕ
 replaceOf ws x i j = firstPrivilege ws x + slotOf (countOf ws x) i j
-
--- how the edits at a type are numbered: from its first privilege, by its number of children
-pub record NumberedAs (ws : List ℕ) (x : ℕ) (n : Numbering) : Type 0 where
-  pub first : n .first ≡ firstPrivilege ws x
-  pub count : n .count ≡ countOf ws x
-  pub low : n .first ≤ 4096
-  pub few : n .count ≤ 16
-
--- i and j are positions of the choice
-pub record Positions (n : Numbering) (i j : ℕ) : Type 0 where
-  pub low : n .first ≤ 4096
-  pub few : n .count ≤ 16
-  pub from : i < n .count
-  pub to : j < n .count
-
-abbrev pub replaceIn : Numbering → ℕ → ℕ → ℕ
-replaceIn n i j = n .first + slotOf (n .count) i j
-
--- the first of the replacements of the child at i: those by the kinds before i come first, then those by the kinds behind it, with no gap
-abbrev pub rowIn : Numbering → ℕ → ℕ
-rowIn n i = n .first + i * (n .count - 1)
-
-abbrev pub insertIn : Numbering → ℕ
-insertIn n = n .first
-
-abbrev pub deleteIn : Numbering → ℕ
-deleteIn n = n .first + 1
-
--- by the numbering, there is a privilege to replace the child at i by the kind at j
-pub record ReplaceableIn (n : Numbering) (i j : ℕ) : Type 0 where
-  pub from : i < n .count
-  pub to : j < n .count
-  pub apart : i ≢ j
 
 -- there is a privilege to replace the child at i by the kind at j
 pub record Replaceable (ws : List ℕ) (x i j : ℕ) : Type 0 where

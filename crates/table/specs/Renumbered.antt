@@ -1,4 +1,5 @@
--- A table with its types renumbered (document 02, order 2): type t of the one is type f t of the other. Assumes nothing.
+-- "Accept every numbering" (document 02, order 2): a table with its types renumbered, in which type t of the one is type f t of the other. Laws cite
+-- it, and no contract does. Assumes nothing.
 use Prim.Native.Nat.{ℕ, zero, suc, _<_}
 use mathlib.Core.Path.{_≡_}
 use mathlib.Core.List.{List, [], _∷_, _++_, map}

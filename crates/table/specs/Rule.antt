@@ -1,10 +1,10 @@
--- A type's rule and its children (document 01, "The schema table"). A type's rule is exactly one of five. A record whose kind is above 4,
--- which check 3 refuses, counts as empty here. Assumes nothing.
-use Prim.Native.Nat.{ℕ, zero, suc, _+_, _*_, _≤_, _<_}
+-- "A type's rule is exactly one of five: 0 empty, 1 text, 2 sequence, 3 choice, 4 star"; "the children of a type are a stretch that starts inside
+-- the child list" (document 01, "The schema table"). A record whose kind is above 4, which check 3 refuses, counts as empty here. Assumes nothing.
+use Prim.Native.Nat.{ℕ, zero, suc, _+_, _*_, _<_}
 use mathlib.Core.Path.{_≡_}
 use mathlib.Core.List.{List}
 use lib.ListN.{length, getD, take, drop}
-use Rattle.table.specs.Words.{types, HasRecord, kindAt, countAt, firstAt}
+use Rattle.table.specs.Words.{types, kindAt, countAt, firstAt}
 use Rattle.table.specs.declared.rule.Rule.{Rule}
 use Rattle.table.specs.declared.rule.Rule.the-variants.{Empty, Text, Sequence, Choice, Star}
 
@@ -44,12 +44,6 @@ kindIn (Sequence first count) = 2
 kindIn (Choice first count) = 3
 kindIn (Star first count) = 4
 
--- r is the rule, of 16-bit numbers
-pub record ReadAs (rule r : Rule) : Type 0 where
-  pub is : r ≡ rule
-  pub first : firstIn r < 65536
-  pub count : countIn r < 65536
-
 -- the children of a rule: a stretch that starts inside the child list
 abbrev pub childrenIn : List ℕ → Rule → List ℕ
 childrenIn ws rule = take (countIn rule) (drop (8 + 3 * types ws + firstIn rule) ws)
@@ -57,12 +51,6 @@ childrenIn ws rule = take (countIn rule) (drop (8 + 3 * types ws + firstIn rule)
 -- the children of type t
 unfoldable pub childrenAt : List ℕ → ℕ → List ℕ
 childrenAt ws t = childrenIn ws (ruleAt ws t)
-
--- its record and its children stand in the run, as many as the record says
-pub record HasChildren (ws : List ℕ) (t : ℕ) : Type 0 where
-  pub described : HasRecord ws t
-  pub counted : countIn (ruleAt ws t) ≡ countAt ws t
-  pub listed : 8 + 3 * types ws + firstAt ws t + countAt ws t ≤ length ws
 
 -- how many children type t has, and the one at position i
 unfoldable pub countOf : List ℕ → ℕ → ℕ

@@ -1,13 +1,13 @@
 // Accepting a table in one pass over its types and one along their order. For each type a stamp, 65,535 while it is nobody's child, else its latest
-// parent's number, and a count of the child entries that name it. Contracts cite specs/Accept. Only a yes promises something.
+// parent's number, and a count of the child entries that name it. Contracts cite specs/steps/Accept. Only a yes promises something.
 ghost use mathlib.Core.Path.{_≡_};
 ghost use mathlib.Core.Bool.{true};
 ghost use Prim.Native.Nat.{_≤_, _<_};
 ghost use lib.ListN.{length, replicate};
-ghost use Rattle.table.specs.Lowest.{Tells};
+ghost use Rattle.table.specs.steps.Found.{Tells};
 ghost use Rattle.table.specs.Check.{Laid, RightCount};
-ghost use Rattle.table.specs.Accept.{Countable, Stamped, Totals, TypesPass};
-ghost use Rattle.table.specs.Accepting.{Accepting};
+ghost use Rattle.table.specs.steps.Accept.{Countable, Stamped, Totals, TypesPass};
+ghost use Rattle.table.specs.steps.Accepting.{Accepting};
 use super::check::is_headed;
 use super::check::is_laid;
 use super::check::right_count;

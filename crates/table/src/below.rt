@@ -1,13 +1,13 @@
-// What is below a type, whether or not there is an order. Contracts cite specs/Below and specs/Flags.
+// What is below a type, whether or not there is an order. Contracts cite specs/Below, and specs/steps/Flags for the way there.
 ghost use mathlib.Core.Path.{_≡_};
 ghost use Prim.Native.Nat.{_<_};
 ghost use lib.ListN.{replicate};
 ghost use Rattle.table.specs.Words.{types};
 ghost use Rattle.table.specs.Check.{Inside};
-ghost use Rattle.table.specs.Childed.{Childed};
-ghost use Rattle.table.specs.Lowest.{Tells};
+ghost use Rattle.table.specs.steps.Childed.{Childed};
+ghost use Rattle.table.specs.steps.Found.{Tells};
 ghost use Rattle.table.specs.Below.{OnCycle};
-ghost use Rattle.table.specs.Flags.{Flags, Added, MarksBelow};
+ghost use Rattle.table.specs.steps.Flags.{Flags, Added, MarksBelow};
 use super::rule::children;
 use super::words::word_at;
 

@@ -3,7 +3,7 @@
 ghost use mathlib.Core.Path.{_≡_};
 ghost use lib.ListN.{length};
 ghost use Rattle.table.specs.Check.{TableAnswer};
-ghost use Rattle.table.specs.Accepting.{OrderedAnswer};
+ghost use Rattle.table.specs.steps.Accepting.{OrderedAnswer};
 
 mod accept;
 mod below;

@@ -1,12 +1,12 @@
-// An order of the types in which every type comes after its children. Contracts cite specs/Order, and specs/Counts for the way there.
+// An order of the types in which every type comes after its children. Contracts cite specs/steps/Order, and specs/steps/Counts for the way there.
 ghost use mathlib.Core.Path.{_≡_};
 ghost use Prim.Native.Nat.{_+_, _≤_};
 ghost use lib.ListN.{length, replicate};
 ghost use Rattle.table.specs.Check.{Accepted};
-ghost use Rattle.table.specs.Childed.{Childed};
-ghost use Rattle.table.specs.Counts.{Counts, Filling};
-ghost use Rattle.table.specs.Accepting.{Ordering};
-ghost use Rattle.table.specs.Order.{BottomUp};
+ghost use Rattle.table.specs.steps.Childed.{Childed};
+ghost use Rattle.table.specs.steps.Counts.{Counts, Filling};
+ghost use Rattle.table.specs.steps.Accepting.{Ordering};
+ghost use Rattle.table.specs.steps.Order.{BottomUp};
 use super::rule::children;
 use super::words::entries;
 use super::words::stretch;

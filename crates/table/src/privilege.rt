@@ -1,12 +1,14 @@
-// How many privileges a table has, and the number of each. Contracts cite specs/Privilege.
+// How many privileges a table has, and the number of each. Contracts cite specs/Privilege, and specs/steps/Numbering for the parts.
 ghost use mathlib.Core.Path.{_≡_};
 ghost use Prim.Native.Nat.{_≤_, _<_};
 ghost use lib.ListN.{length};
-ghost use Rattle.table.specs.Words.{Within, types, HasRecord};
+ghost use Rattle.table.specs.Words.{types};
+ghost use Rattle.table.specs.steps.Reading.{Within, HasRecord};
 ghost use Rattle.table.specs.Rule.{countIn};
-ghost use Rattle.table.specs.Privilege.{privilegesOf, othersOf, choicesOf, privilegesAt, firstPrivilege, privileges, Firsts, NumberedAs, Positions, insertIn, deleteIn, replaceIn, rowIn, ReplaceableIn};
+ghost use Rattle.table.specs.Privilege.{privilegesOf, privilegesAt, firstPrivilege, privileges};
+ghost use Rattle.table.specs.steps.Numbering.{othersOf, choicesOf, Firsts, NumberedAs, Positions, insertIn, deleteIn, replaceIn, rowIn, ReplaceableIn};
 ghost use Rattle.table.specs.Check.{Laid, Accepted};
-ghost use Rattle.table.specs.Lowest.{Tells};
+ghost use Rattle.table.specs.steps.Found.{Tells};
 use super::rule::Rule;
 use super::rule::rule_at;
 use super::words::record_word;
@@ -70,10 +72,10 @@ pub(crate) fn privileges(words: &[u16]) -> usize
     sum
 }
 
-// Writes the first privilege of each type of a table.
+// Writes the first privilege of each type of a table, and leaves what stands behind the types.
 pub fn first_privileges(words: &[u16], firsts: &mut [u16; 256])
     requires { ⌜ Accepted (now words) × (length (now firsts) ≡ 256) ⌝ }
-    ensures { λ _. ⌜ Firsts (now (words .entry)) (now (firsts .exit)) ⌝ }
+    ensures { λ _. ⌜ Firsts (now (words .entry)) (now (firsts .entry)) (now (firsts .exit)) ⌝ }
 {
     let e = types(words);
     let mut first = 0;

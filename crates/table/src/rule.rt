@@ -1,7 +1,7 @@
-// A type's rule and its children. Contracts cite specs/Rule.
+// A type's rule and its children. Contracts cite specs/Rule, and specs/steps/Reading for what must stand in the run.
 ghost use mathlib.Core.Path.{_≡_};
-ghost use Rattle.table.specs.Words.{HasRecord};
-ghost use Rattle.table.specs.Rule.{ruleOf, ruleAt, ReadAs, childrenAt, HasChildren};
+ghost use Rattle.table.specs.steps.Reading.{HasRecord, ReadAs, HasChildren};
+ghost use Rattle.table.specs.Rule.{ruleOf, ruleAt, childrenAt};
 use super::words::record_word;
 use super::words::types;
 

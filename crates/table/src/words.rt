@@ -1,9 +1,10 @@
 // Reading a lent run of words, for every place: past the end stands 0, and a stretch that runs over the end is shorter. A type's record is read
-// where it is known to be there. Contracts cite specs/Words.
+// where it is known to be there. Contracts cite specs/Words and specs/steps/Reading.
 ghost use mathlib.Core.Path.{_≡_};
 ghost use Prim.Native.Nat.{_-_, _<_, min};
 ghost use lib.ListN.{take, drop, getD};
-ghost use Rattle.table.specs.Words.{Widened, types, entries, recordWord, HasRecord};
+ghost use Rattle.table.specs.Words.{types, entries, recordWord};
+ghost use Rattle.table.specs.steps.Reading.{Widened, HasRecord};
 
 fn wide(x: u16) -> usize
     ensures { λ r. ⌜ Widened x r ⌝ }

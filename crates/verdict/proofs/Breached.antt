@@ -1,198 +1,172 @@
--- The first breach at one type, by its kind. Assumes nothing.
+-- The first breach at one type, by its kind. B y p says that p is forbidden below type y. Assumes nothing.
 use Prim.Native.Nat.{ℕ, _+_, _≤_, _<_}
 use mathlib.Core.Path.{_≡_, refl, sym, ap, subst, _∙_}
 use mathlib.Core.Logic.{_≢_, _⊎_, inl, inr}
-use mathlib.Core.Bool.{Bool, true, false}
 use mathlib.Core.List.{List, [], _∷_}
 use native.Mathlib.Omega.{arith}
 use Rattle.table.specs.Rule.{ruleAt, kindIn, countOf, childAt, IsChoice, IsStar}
-use Rattle.table.specs.Privilege.{insertOf, deleteOf, NumberedAs, replaceIn}
+use Rattle.table.specs.Privilege.{insertOf, deleteOf}
+use Rattle.table.specs.steps.Numbering.{NumberedAs, replaceIn}
 use Rattle.table.specs.declared.privilege.Numbering.{Numbering}
-use Rattle.table.specs.Lowest.{Tells}
-use Rattle.table.proofs.Lowest.{told-yes}
-use Rattle.table.proofs.Privileges.{replace-in}
-use Rattle.verdict.specs.Marks.{Allowed}
-use Rattle.verdict.specs.Below.{ForbiddenBelow}
-use Rattle.table.specs.Plus.{last, next}
-use Rattle.verdict.specs.Reached.{Reached, marked, Square}
-use Rattle.verdict.specs.Breaches.{conditionNumber, InsertDeleteBreach, ChainBreach, CycleBreach, BreachOf, IsBreach, key, Lex, BreachAt, none, first}
-use Rattle.verdict.specs.Visits.{Broken, FirstAt, CycleAt}
-use Rattle.verdict.specs.Visits as visits
+use Rattle.table.proofs.Privileges.{replaceable-in, in-replaceable, replace-in}
+use Rattle.policy.specs.Marks.{Allowed}
+use Rattle.policy.specs.Reached.{Reached}
+use Rattle.policy.specs.steps.Squares.{Square}
+use Rattle.policy.proofs.SquareLaws.{marked-told, told-marked}
+use Rattle.policy.proofs.Reaches.{reached-from, reached-to}
+use Rattle.verdict.specs.Breaches.{conditionNumber, Spot, spotOf, InsertDeleteBreach, ChainBreach, CycleBreach, BreachOf, key, Lex}
+use Rattle.verdict.specs.steps.Visits.{Broken, FirstAt, Searched, none, first, BreachAt, CycleAt}
 use Rattle.verdict.specs.declared.Breach.{Breach}
 use Rattle.verdict.specs.declared.Condition.{Condition}
 use Rattle.verdict.specs.declared.Condition.the-variants.{InsertDelete, Chain, Cycle}
-use Rattle.verdict.proofs.Firsts.{lex-more, lex-end, lex-cases, breach-cases}
+use Rattle.verdict.proofs.Firsts.{lex-more, lex-end, lex-cases, Cases, breach-cases}
 
--- a reached position is a position
-pub reached-from : {ws : List ℕ} {S : ℕ → Type 0} {x i j : ℕ} → Reached ws S x i j → i < countOf ws x
-reached-from (last s) = s .can .from
-reached-from (next k s r) = s .can .from
-
-pub reached-to : {ws : List ℕ} {S : ℕ → Type 0} {x i j : ℕ} → Reached ws S x i j → j < countOf ws x
-reached-to (last s) = s .can .to
-reached-to (next k s r) = reached-to r
-
--- a flag that tells what holds is true
-reached-marked : {P : Type 0} (r : Bool) → Tells P r → P → r ≡ true
-reached-marked true t p = refl
-reached-marked false t p = absurd (t p)
-
-module _ (ws marks : List ℕ) (x : ℕ) where
-  kind-here : (c : Breach) {k : ℕ} → c .element ≡ x → kindIn (ruleAt ws (c .element)) ≡ k → kindIn (ruleAt ws x) ≡ k
-  kind-here c e h = ap (λ (y : ℕ). kindIn (ruleAt ws y)) (sym e) ∙ h
+module _ (ws marks : List ℕ) (B : ℕ → ℕ → Type 0) (x : ℕ) where
+  kind-here : (s : Spot) {k : ℕ} → s .element ≡ x → kindIn (ruleAt ws (s .element)) ≡ k → kindIn (ruleAt ws x) ≡ k
+  kind-here s e h = ap (λ (y : ℕ). kindIn (ruleAt ws y)) (sym e) ∙ h
 
   -- a type that is neither a star nor a choice has no breach
-  pub plain-none : kindIn (ruleAt ws x) ≢ 3 → kindIn (ruleAt ws x) ≢ 4 → (c : Breach) → IsBreach ws marks c → c .element ≢ x
-  plain-none d s c b e = elim (breach-cases ws marks c b) [
-    | inl h ↦ s (kind-here c e (h .1 .star .kind-is))
-    | inr (inl h) ↦ d (kind-here c e (h .1 .choice .kind-is))
-    | inr (inr h) ↦ d (kind-here c e (h .1 .choice .kind-is))
+  pub plain-none : kindIn (ruleAt ws x) ≢ 3 → kindIn (ruleAt ws x) ≢ 4 → (s : Spot) (p : ℕ) → ¬ BreachAt ws marks B x s p
+  plain-none c d s p b = elim (breach-cases ws marks B s p (b .breach)) [
+    | inl h ↦ d (kind-here s (b .here) (h .1 .star .kind-is))
+    | inr (inl h) ↦ c (kind-here s (b .here) (h .1 .choice .kind-is))
+    | inr (inr h) ↦ c (kind-here s (b .here) (h .1 .choice .kind-is))
   ]
 
   -- a star's breaches are of condition 1
-  pub star-only : IsStar ws x → (c : Breach) → IsBreach ws marks c → c .element ≡ x → (c .condition ≡ InsertDelete) × InsertDeleteBreach ws marks c
-  star-only s c b e = go (breach-cases ws marks c b)
+  pub star-only : IsStar ws x → (s : Spot) (p : ℕ) → BreachAt ws marks B x s p → (s .condition ≡ InsertDelete) × InsertDeleteBreach ws marks B s p
+  star-only star s p b = go (breach-cases ws marks B s p (b .breach))
     where
-      go : ((c .condition ≡ InsertDelete) × InsertDeleteBreach ws marks c) ⊎ ((c .condition ≡ Chain) × ChainBreach ws marks c)
-          ⊎ ((c .condition ≡ Cycle) × CycleBreach ws marks c) → (c .condition ≡ InsertDelete) × InsertDeleteBreach ws marks c
+      go : Cases ws marks B s p → (s .condition ≡ InsertDelete) × InsertDeleteBreach ws marks B s p
       go (inl h) = h
-      go (inr (inl h)) = absurd (omega (arith, s .kind-is, kind-here c e (h .1 .choice .kind-is)))
-      go (inr (inr h)) = absurd (omega (arith, s .kind-is, kind-here c e (h .1 .choice .kind-is)))
+      go (inr (inl h)) = absurd (omega (arith, star .kind-is, kind-here s (b .here) (h .1 .choice .kind-is)))
+      go (inr (inr h)) = absurd (omega (arith, star .kind-is, kind-here s (b .here) (h .1 .choice .kind-is)))
 
   -- a choice's are of 2 or 3
-  pub choice-only : IsChoice ws x → (c : Breach) → IsBreach ws marks c → c .element ≡ x
-      → ((c .condition ≡ Chain) × ChainBreach ws marks c) ⊎ ((c .condition ≡ Cycle) × CycleBreach ws marks c)
-  choice-only s c b e = go (breach-cases ws marks c b)
+  pub choice-only : IsChoice ws x → (s : Spot) (p : ℕ) → BreachAt ws marks B x s p
+      → ((s .condition ≡ Chain) × ChainBreach ws marks s p) ⊎ ((s .condition ≡ Cycle) × CycleBreach ws marks B s p)
+  choice-only choice s p b = go (breach-cases ws marks B s p (b .breach))
     where
-      go : ((c .condition ≡ InsertDelete) × InsertDeleteBreach ws marks c) ⊎ ((c .condition ≡ Chain) × ChainBreach ws marks c)
-          ⊎ ((c .condition ≡ Cycle) × CycleBreach ws marks c) → ((c .condition ≡ Chain) × ChainBreach ws marks c) ⊎ ((c .condition ≡ Cycle) × CycleBreach ws marks c)
-      go (inl h) = absurd (omega (arith, s .kind-is, kind-here c e (h .1 .star .kind-is)))
+      go : Cases ws marks B s p → ((s .condition ≡ Chain) × ChainBreach ws marks s p) ⊎ ((s .condition ≡ Cycle) × CycleBreach ws marks B s p)
+      go (inl h) = absurd (omega (arith, choice .kind-is, kind-here s (b .here) (h .1 .star .kind-is)))
       go (inr h) = h
 
-  module _ (s : IsStar ws x) where
+  module _ (star : IsStar ws x) where
     -- an insert or a delete that is not allowed, or nothing forbidden below: no breach
-    pub star-closed : ¬ (Allowed marks (insertOf ws x) × Allowed marks (deleteOf ws x)) → (c : Breach) → IsBreach ws marks c → c .element ≢ x
-    star-closed d c b e = let h = star-only s c b e .1 in d (rw e at (h .insert), rw e at (h .delete))
+    pub star-closed : ¬ (Allowed marks (insertOf ws x) × Allowed marks (deleteOf ws x)) → (s : Spot) (p : ℕ) → ¬ BreachAt ws marks B x s p
+    star-closed d s p b = let h = star-only star s p b .1 in d (rw (b .here) at (h .insert), rw (b .here) at (h .delete))
 
-    pub star-free : ((q : ℕ) → ¬ ForbiddenBelow ws marks (childAt ws x 0) q) → (c : Breach) → IsBreach ws marks c → c .element ≢ x
-    star-free n c b e = let h = star-only s c b e .1 in n (c .privilege) (record { below = rw e at (h .below); forbidden = h .forbidden })
+    pub star-free : ((q : ℕ) → ¬ B (childAt ws x 0) q) → (s : Spot) (p : ℕ) → ¬ BreachAt ws marks B x s p
+    star-free n s p b = let h = star-only star s p b .1 in n p (rw (b .here) at (h .below))
 
-    pub star-first : {p : ℕ} → Allowed marks (insertOf ws x) → Allowed marks (deleteOf ws x) → ForbiddenBelow ws marks (childAt ws x 0) p
-        → ((q : ℕ) → ForbiddenBelow ws marks (childAt ws x 0) q → p ≤ q)
-        → BreachAt ws marks x (record { condition = InsertDelete; element = x; i = 0; j = 0; privilege = p })
-    star-first {p} i d f least = first
-        (record { star = s; zero-i = refl; zero-j = refl; insert = i; delete = d; below = f .below; forbidden = f .forbidden })
-        refl (λ c b e l. go c e (star-only s c b e) l)
+    pub star-first : {p : ℕ} → Allowed marks (insertOf ws x) → Allowed marks (deleteOf ws x) → B (childAt ws x 0) p
+        → Searched (BreachAt ws marks B x) (record { condition = InsertDelete; element = x; i = 0; j = 0; privilege = p })
+    star-first {p} i d f = first
+        (record { breach = record { star = star; zero-i = refl; zero-j = refl; insert = i; delete = d; below = f }; here = refl })
+        (λ s q b l. go s q b (star-only star s q b) l)
       where
-        go : (c : Breach) → c .element ≡ x → (c .condition ≡ InsertDelete) × InsertDeleteBreach ws marks c
-            → ¬ Lex (key c) (x ∷ 1 ∷ 0 ∷ 0 ∷ p ∷ [])
-        go c e (k, h) l =
-            let low = least (c .privilege) (record { below = rw e at (h .below); forbidden = h .forbidden }) in
+        go : (s : Spot) (q : ℕ) → BreachAt ws marks B x s q → (s .condition ≡ InsertDelete) × InsertDeleteBreach ws marks B s q → ¬ Lex (key s) (x ∷ 1 ∷ 0 ∷ 0 ∷ [])
+        go s q b (k, h) l =
             let n = ap conditionNumber k in
-            lex-end (lex-more low (lex-more (omega arith) (lex-more (omega arith) (lex-more (omega arith) (lex-more (omega arith) l)))))
+            lex-end (lex-more (omega arith) (lex-more (omega arith) (lex-more (omega arith) (lex-more (omega (arith, b .here)) l))))
 
-  module _ (s : IsChoice ws x) {n : Numbering} (numbered : NumberedAs ws x n) {square : List ℕ}
+  module _ (choice : IsChoice ws x) {n : Numbering} (numbered : NumberedAs ws x n) {square : List ℕ}
       (tells : Square (countOf ws x) (Reached ws (Allowed marks) x) square) where
     -- a breach of condition 2 is a pair that the square and the marks show
-    chain-broken : (c : Breach) → ChainBreach ws marks c → c .element ≡ x → Broken marks n square (c .i) (c .j)
-    chain-broken c h e =
-        let r : Reached ws (Allowed marks) x (c .i) (c .j) = rw e at (h .reached) in
+    chain-broken : (s : Spot) (p : ℕ) → ChainBreach ws marks s p → s .element ≡ x → Broken marks n square (s .i) (s .j)
+    chain-broken s p h e =
+        let r : Reached ws (Allowed marks) x (s .i) (s .j) = rw e at (h .reached) in
         record {
-          apart = h .apart;
-          leads = lead r;
-          forbidden = rw (replace-in numbered (c .i) (c .j), ← e, ← h .is) (h .forbidden);
+          leads = told-marked tells (s .i) (s .j) (reached-from r) (reached-to r) r .is;
+          forbidden = record {
+            can = replaceable-in numbered (rw e at (h .can));
+            is = rw (replace-in numbered (s .i) (s .j), ← e, ← h .is) (h .forbidden);
+          };
         }
-      where
-        lead : {i j : ℕ} → Reached ws (Allowed marks) x i j → marked square i j ≡ true
-        lead {i} {j} r = reached-marked (marked square i j) (tells .tells i j (reached-from r) (reached-to r)) r
 
-    broken-reached : {i j : ℕ} → i < countOf ws x → j < countOf ws x → Broken marks n square i j → Reached ws (Allowed marks) x i j
-    broken-reached {i} {j} hi hj b = told-yes (marked square i j) (tells .tells i j hi hj) (b .leads)
-
-    pub chain-none : ((a : ℕ) → a < n .count → (b : ℕ) → b < n .count → ¬ Broken marks n square a b)
-        → (c : Breach) → ChainBreach ws marks c → c .element ≢ x
-    chain-none free c h e =
-        let r : Reached ws (Allowed marks) x (c .i) (c .j) = rw e at (h .reached) in
-        free (c .i) (omega (arith, numbered .count, reached-from r)) (c .j) (omega (arith, numbered .count, reached-to r)) (chain-broken c h e)
+    chain-none : ((a : ℕ) → a < n .count → (b : ℕ) → b < n .count → ¬ Broken marks n square a b) → (s : Spot) (p : ℕ) → ChainBreach ws marks s p → s .element ≢ x
+    chain-none free s p h e =
+        let r : Reached ws (Allowed marks) x (s .i) (s .j) = rw e at (h .reached) in
+        free (s .i) (omega (arith, numbered .count, reached-from r)) (s .j) (omega (arith, numbered .count, reached-to r)) (chain-broken s p h e)
 
     pub chain-first : {i j : ℕ} → FirstAt (Broken marks n square) (n .count) i j
-        → BreachAt ws marks x (record { condition = Chain; element = x; i = i; j = j; privilege = replaceIn n i j })
+        → Searched (BreachAt ws marks B x) (record { condition = Chain; element = x; i = i; j = j; privilege = replaceIn n i j })
     chain-first {i} {j} f = first
         (record {
-          choice = s;
-          reached = broken-reached (omega (arith, numbered .count, f .from)) (omega (arith, numbered .count, f .to)) (f .holds);
-          apart = f .holds .apart;
-          is = replace-in numbered i j;
-          forbidden = f .holds .forbidden;
+          breach = record {
+            choice = choice;
+            reached = marked-told tells i j (record { from = omega (arith, numbered .count, f .from); to = omega (arith, numbered .count, f .to); is = f .holds .leads });
+            can = in-replaceable numbered choice (f .holds .forbidden .can);
+            is = replace-in numbered i j;
+            forbidden = f .holds .forbidden .is;
+          };
+          here = refl;
         })
-        refl (λ c b e l. go c e (choice-only s c b e) l)
+        (λ s p b l. go s p (b .here) (choice-only choice s p b) l)
       where
-        pair : (c : Breach) → c .element ≡ x → ChainBreach ws marks c → Lex (c .i ∷ c .j ∷ c .privilege ∷ []) (i ∷ j ∷ replaceIn n i j ∷ []) → ⊥
-        pair c e h l = at (lex-cases l)
+        pair : (s : Spot) (p : ℕ) → s .element ≡ x → ChainBreach ws marks s p → Lex (s .i ∷ s .j ∷ []) (i ∷ j ∷ []) → ⊥
+        pair s p e h l = at (lex-cases l)
           where
-            r : Reached ws (Allowed marks) x (c .i) (c .j)
+            r : Reached ws (Allowed marks) x (s .i) (s .j)
             r = rw e at (h .reached)
 
-            found : Broken marks n square (c .i) (c .j)
-            found = chain-broken c h e
+            found : Broken marks n square (s .i) (s .j)
+            found = chain-broken s p h e
 
-            column : c .i ≡ i → (c .j < j) ⊎ ((c .j ≡ j) × Lex (c .privilege ∷ []) (replaceIn n i j ∷ [])) → ⊥
-            column q (inl k) = f .row (c .j) k (rw q at found)
-            column q (inr (o, k)) =
-                let is : c .privilege ≡ replaceIn n i j = rw (h .is, e, q, o) (sym (replace-in numbered i j)) in
-                lex-end (lex-more (omega (arith, is)) k)
+            at : (s .i < i) ⊎ ((s .i ≡ i) × Lex (s .j ∷ []) (j ∷ [])) → ⊥
+            at (inl k) = f .rows (s .i) k (s .j) (omega (arith, numbered .count, reached-to r)) found
+            at (inr (q, k)) = elim (lex-cases k) [ inl m ↦ f .row (s .j) m (rw q at found) | inr m ↦ lex-end (m .1) ]
 
-            at : (c .i < i) ⊎ ((c .i ≡ i) × Lex (c .j ∷ c .privilege ∷ []) (j ∷ replaceIn n i j ∷ [])) → ⊥
-            at (inl k) = f .rows (c .i) k (c .j) (omega (arith, numbered .count, reached-to r)) found
-            at (inr (q, k)) = column q (lex-cases k)
-
-        go : (c : Breach) → c .element ≡ x → ((c .condition ≡ Chain) × ChainBreach ws marks c) ⊎ ((c .condition ≡ Cycle) × CycleBreach ws marks c)
-            → Lex (key c) (x ∷ 2 ∷ i ∷ j ∷ replaceIn n i j ∷ []) → ⊥
-        go c e (inl (k, h)) l = let m = ap conditionNumber k in pair c e h (lex-more (omega arith) (lex-more (omega arith) l))
-        go c e (inr (k, h)) l =
+        go : (s : Spot) (p : ℕ) → s .element ≡ x → ((s .condition ≡ Chain) × ChainBreach ws marks s p) ⊎ ((s .condition ≡ Cycle) × CycleBreach ws marks B s p)
+            → Lex (key s) (x ∷ 2 ∷ i ∷ j ∷ []) → ⊥
+        go s p e (inl (k, h)) l = let m = ap conditionNumber k in pair s p e h (lex-more (omega arith) (lex-more (omega arith) l))
+        go s p e (inr (k, h)) l =
             let m = ap conditionNumber k in
             elim (lex-cases (lex-more (omega arith) l)) [ inl z ↦ omega arith | inr z ↦ omega (arith, z .0) ]
 
     -- where there is no chain, the first cycle is the first breach
     pub choice-at : ((a : ℕ) → a < n .count → (b : ℕ) → b < n .count → ¬ Broken marks n square a b)
-        → {b : Breach} → CycleAt ws marks x b → BreachAt ws marks x b
-    choice-at free {b} (visits.none e f) = none e (λ c g q. go c g q (choice-only s c g q))
+        → {b : Breach} → Searched (CycleAt ws marks B x) b → Searched (BreachAt ws marks B x) b
+    choice-at free {b} found = by found
       where
-        go : (c : Breach) → IsBreach ws marks c → c .element ≡ x → ((c .condition ≡ Chain) × ChainBreach ws marks c) ⊎ ((c .condition ≡ Cycle) × CycleBreach ws marks c) → ⊥
-        go c g q (inl h) = chain-none free c (h .1) q
-        go c g q (inr h) = f c (h .1) q
-    choice-at free {b} (visits.first k h q f) = first (subst (λ (d : Condition). BreachOf ws marks d b) (sym k) h) q (λ c g e. go c e (choice-only s c g e))
-      where
-        go : (c : Breach) → c .element ≡ x → ((c .condition ≡ Chain) × ChainBreach ws marks c) ⊎ ((c .condition ≡ Cycle) × CycleBreach ws marks c) → ¬ Lex (key c) (key b)
-        go c e (inl g) = absurd (chain-none free c (g .1) e)
-        go c e (inr g) = f c (g .0) (g .1) e
+        cycle : (s : Spot) (p : ℕ) → BreachAt ws marks B x s p → CycleAt ws marks B x s p
+        cycle s p h = elim (choice-only choice s p h) [
+          | inl g ↦ absurd (chain-none free s p (g .1) (h .here))
+          | inr g ↦ record { of-cycle = g .0; breach = g .1; here = h .here }
+        ]
+
+        by : Searched (CycleAt ws marks B x) b → Searched (BreachAt ws marks B x) b
+        by (none e f) = none e (λ s p h. f s p (cycle s p h))
+        by (first h f) = first
+            (record { breach = subst (λ (d : Condition). BreachOf ws marks B d (spotOf b) (b .privilege)) (sym (h .of-cycle)) (h .breach); here = h .here })
+            (λ s p g. f s p (cycle s p g))
 
   -- cycles, position by position: those before i have none
   abbrev pub CyclesFrom : ℕ → Type 0
-  CyclesFrom i = (c : Breach) → CycleBreach ws marks c → c .element ≡ x → i ≤ c .i
+  CyclesFrom i = (s : Spot) (p : ℕ) → CycleAt ws marks B x s p → i ≤ s .i
 
   pub cycles-start : CyclesFrom 0
-  cycles-start c h e = omega arith
+  cycles-start s p h = omega arith
 
-  pub cycles-more : {i : ℕ} → CyclesFrom i
-      → ((p : ℕ) → Reached ws (Allowed marks) x i i → ¬ ForbiddenBelow ws marks (childAt ws x i) p) → CyclesFrom (i + 1)
-  cycles-more {i} g d c h e =
-      let l = g c h e in
-      let apart : c .i ≢ i = λ q. d (c .privilege) (rw (e, q) at (h .reached)) (record { below = rw (e, q) at (h .below); forbidden = h .forbidden }) in
+  pub cycles-more : {i : ℕ} → CyclesFrom i → ((p : ℕ) → Reached ws (Allowed marks) x i i → ¬ B (childAt ws x i) p) → CyclesFrom (i + 1)
+  cycles-more {i} g d s p h =
+      let l = g s p h in
+      let c = h .breach in
+      let apart : s .i ≢ i = λ q. d p (rw (h .here, q) at (c .reached)) (rw (h .here, q) at (c .below)) in
       omega arith
 
-  pub cycles-none : CyclesFrom (countOf ws x) → (c : Breach) → CycleBreach ws marks c → c .element ≢ x
-  cycles-none g c h e = let l = g c h e in let r : Reached ws (Allowed marks) x (c .i) (c .i) = rw e at (h .reached) in omega (arith, reached-from r)
+  pub cycles-none : CyclesFrom (countOf ws x) → (s : Spot) (p : ℕ) → ¬ CycleAt ws marks B x s p
+  cycles-none g s p h =
+      let l = g s p h in
+      let r : Reached ws (Allowed marks) x (s .i) (s .i) = rw (h .here) at (h .breach .reached) in
+      omega (arith, reached-from r)
 
-  pub cycle-first : {i p : ℕ} → IsChoice ws x → CyclesFrom i → Reached ws (Allowed marks) x i i → ForbiddenBelow ws marks (childAt ws x i) p
-      → ((q : ℕ) → ForbiddenBelow ws marks (childAt ws x i) q → p ≤ q)
-      → CycleAt ws marks x (record { condition = Cycle; element = x; i = i; j = i; privilege = p })
-  cycle-first {i} {p} s g r f least = visits.first refl
-      (record { choice = s; same = refl; reached = r; below = f .below; forbidden = f .forbidden }) refl
-      (λ c k h e l. at c h e (lex-cases (lex-more (omega (arith, ap conditionNumber k)) (lex-more (omega arith) l))))
+  pub cycle-first : {i p : ℕ} → IsChoice ws x → CyclesFrom i → Reached ws (Allowed marks) x i i → B (childAt ws x i) p
+      → Searched (CycleAt ws marks B x) (record { condition = Cycle; element = x; i = i; j = i; privilege = p })
+  cycle-first {i} {p} choice g r f = first
+      (record { of-cycle = refl; breach = record { choice = choice; same = refl; reached = r; below = f }; here = refl })
+      (λ s q h l. at s q h (lex-cases (lex-more (omega (arith, ap conditionNumber (h .of-cycle))) (lex-more (omega (arith, h .here)) l))))
     where
-      at : (c : Breach) → CycleBreach ws marks c → c .element ≡ x → (c .i < i) ⊎ ((c .i ≡ i) × Lex (c .j ∷ c .privilege ∷ []) (i ∷ p ∷ [])) → ⊥
-      at c h e (inl k) = omega (arith, g c h e)
-      at c h e (inr (q, k)) =
-          let low = least (c .privilege) (record { below = rw (e, q) at (h .below); forbidden = h .forbidden }) in
-          lex-end (lex-more low (lex-more (omega (arith, h .same)) k))
+      at : (s : Spot) (q : ℕ) → CycleAt ws marks B x s q → (s .i < i) ⊎ ((s .i ≡ i) × Lex (s .j ∷ []) (i ∷ [])) → ⊥
+      at s q h (inl k) = omega (arith, g s q h)
+      at s q h (inr (e, k)) = lex-end (lex-more (omega (arith, h .breach .same)) k)

@@ -13,7 +13,7 @@ use Rattle.table.proofs.Privileges.{edit-below, edit-some, edit-one}
 use Rattle.table.proofs.Facts.{accepted-childed}
 use Rattle.table.proofs.Renumbered.{renumbered-back, moved-back, offers-there}
 use Rattle.table.proofs.Renumber.{renumbered, renumbered-accepted}
-use Rattle.verdict.specs.Marks.{Fit, Policy}
+use Rattle.policy.specs.Marks.{Fit, Policy}
 use Rattle.verdict.specs.Carried.{Carried}
 
 -- a list of n numbers, each as its place asks

@@ -8,8 +8,11 @@ use lib.ListN.{length, getD}
 use Rattle.table.specs.Words.{types}
 use Rattle.table.specs.Privilege.{replaceOf}
 use Rattle.table.proofs.Lists.{le-or-lt}
+use Rattle.verdict.specs.Below.{ForbiddenBelow}
 use Rattle.verdict.specs.Conditions.{Clean}
-use Rattle.verdict.specs.Breaches.{conditionNumber, InsertDeleteBreach, ChainBreach, CycleBreach, BreachOf, IsBreach, key, Lex, less, same, FirstBreach, Verdict, clean, broken, BreachAt, none, first}
+use Rattle.verdict.specs.Breaches.{conditionNumber, Spot, spotOf, InsertDeleteBreach, ChainBreach, CycleBreach, BreachOf, BreachBy, IsBreach, key}
+use Rattle.verdict.specs.Breaches.{Lex, less, same, FirstSpot, FirstBreach, Verdict, clean, broken}
+use Rattle.verdict.specs.steps.Visits.{Searched, none, first, BreachAt}
 use Rattle.verdict.specs.declared.Breach.{Breach}
 use Rattle.verdict.specs.declared.Condition.{Condition}
 use Rattle.verdict.specs.declared.Condition.the-variants.{None, InsertDelete, Chain, Cycle}
@@ -38,7 +41,7 @@ lex-tri (a ∷ s) (b ∷ t) h = go (le-or-lt a b) (le-or-lt b a) (lex-tri s t (o
     go (inl g) (inl l) (inr (inl f)) = let e : a ≡ b = omega arith in inr (inl (cc))
     go (inl g) (inl l) (inr (inr k)) = let e : a ≡ b = omega arith in inr (inr (rw e (same k)))
 
--- a breach is known by its key
+-- a spot is known by its key
 abbrev pub conditionOf : ℕ → Condition
 conditionOf n = getD (None ∷ InsertDelete ∷ Chain ∷ Cycle ∷ []) n None
 
@@ -48,109 +51,121 @@ condition-of InsertDelete = refl
 condition-of Chain = refl
 condition-of Cycle = refl
 
-key-one : (b c : Breach) → key b ≡ key c → b ≡ c
-key-one b c h =
-    let n : conditionNumber (b .condition) ≡ conditionNumber (c .condition) = cc in
-    let e : b .condition ≡ c .condition = sym (condition-of (b .condition)) ∙ ap conditionOf n ∙ condition-of (c .condition) in
-    let x : b .element ≡ c .element = cc in
-    let i : b .i ≡ c .i = cc in
-    let j : b .j ≡ c .j = cc in
-    let p : b .privilege ≡ c .privilege = cc in
-    λ d. record { condition = e d; element = x d; i = i d; j = j d; privilege = p d }
+key-one : (s t : Spot) → key s ≡ key t → s ≡ t
+key-one s t h =
+    let n : conditionNumber (s .condition) ≡ conditionNumber (t .condition) = cc in
+    let e : s .condition ≡ t .condition = sym (condition-of (s .condition)) ∙ ap conditionOf n ∙ condition-of (t .condition) in
+    let x : s .element ≡ t .element = cc in
+    let i : s .i ≡ t .i = cc in
+    let j : s .j ≡ t .j = cc in
+    λ d. record { condition = e d; element = x d; i = i d; j = j d }
 
-module _ (ws marks : List ℕ) where
-  pub first-one : {b c : Breach} → FirstBreach ws marks b → FirstBreach ws marks c → b ≡ c
-  first-one {b} {c} f g = go (lex-tri (key b) (key c) refl)
-    where
-      go : Lex (key b) (key c) ⊎ (key b ≡ key c) ⊎ Lex (key c) (key b) → b ≡ c
-      go (inl l) = absurd (g .first b (f .breach) l)
-      go (inr (inl e)) = key-one b c e
-      go (inr (inr l)) = absurd (f .first c (g .breach) l)
+breach-one : (b c : Breach) → spotOf b ≡ spotOf c → b .privilege ≡ c .privilege → b ≡ c
+breach-one b c e p = λ d. record { condition = e d .condition; element = e d .element; i = e d .i; j = e d .j; privilege = p d }
 
-  -- a breach is of one of the three conditions
-  pub breach-cases : (c : Breach) → IsBreach ws marks c
-      → ((c .condition ≡ InsertDelete) × InsertDeleteBreach ws marks c) ⊎ ((c .condition ≡ Chain) × ChainBreach ws marks c)
-      ⊎ ((c .condition ≡ Cycle) × CycleBreach ws marks c)
-  breach-cases c = go (c .condition) refl
+-- the first spot is one
+pub spot-one : {Breaks : Spot → ℕ → Type 0} {s t : Spot} → FirstSpot Breaks s → FirstSpot Breaks t → s ≡ t
+spot-one {s = s} {t = t} f g = go (lex-tri (key s) (key t) refl)
+  where
+    go : Lex (key s) (key t) ⊎ (key s ≡ key t) ⊎ Lex (key t) (key s) → s ≡ t
+    go (inl l) = absurd (g .first s (f .broken .0) (f .broken .1) l)
+    go (inr (inl e)) = key-one s t e
+    go (inr (inr l)) = absurd (f .first t (g .broken .0) (g .broken .1) l)
+
+-- a breach is of one of the three conditions
+abbrev pub Cases : List ℕ → List ℕ → (ℕ → ℕ → Type 0) → Spot → ℕ → Type 0
+Cases ws marks B s p = ((s .condition ≡ InsertDelete) × InsertDeleteBreach ws marks B s p) ⊎ ((s .condition ≡ Chain) × ChainBreach ws marks s p)
+    ⊎ ((s .condition ≡ Cycle) × CycleBreach ws marks B s p)
+
+module _ (ws marks : List ℕ) (B : ℕ → ℕ → Type 0) where
+  pub breach-cases : (s : Spot) (p : ℕ) → BreachBy ws marks B s p → Cases ws marks B s p
+  breach-cases s p = go (s .condition) refl
     where
-      go : (k : Condition) → c .condition ≡ k → BreachOf ws marks k c
-          → ((c .condition ≡ InsertDelete) × InsertDeleteBreach ws marks c) ⊎ ((c .condition ≡ Chain) × ChainBreach ws marks c)
-          ⊎ ((c .condition ≡ Cycle) × CycleBreach ws marks c)
+      go : (k : Condition) → s .condition ≡ k → BreachOf ws marks B k s p → Cases ws marks B s p
       go None e b = absurd b
       go InsertDelete e b = inl (e, b)
       go Chain e b = inr (inl (e, b))
       go Cycle e b = inr (inr (e, b))
 
-  pub breach-type : (c : Breach) → IsBreach ws marks c → c .element < types ws
-  breach-type c b = elim (breach-cases c b) [
+  pub breach-type : (s : Spot) (p : ℕ) → BreachBy ws marks B s p → s .element < types ws
+  breach-type s p b = elim (breach-cases s p b) [
     | inl h ↦ h .1 .star .type
     | inr (inl h) ↦ h .1 .choice .type
     | inr (inr h) ↦ h .1 .choice .type
   ]
 
-  -- a clean policy has no breach, and one with none is clean
-  pub clean-none : Clean ws marks → (c : Breach) → ¬ IsBreach ws marks c
-  clean-none q c b = go (breach-cases c b)
-    where
-      go : ((c .condition ≡ InsertDelete) × InsertDeleteBreach ws marks c) ⊎ ((c .condition ≡ Chain) × ChainBreach ws marks c)
-          ⊎ ((c .condition ≡ Cycle) × CycleBreach ws marks c) → ⊥
-      go (inl (e, h)) = q .insert-delete (c .element) (c .privilege) (h .star) (h .insert) (h .delete) (h .below) (h .forbidden)
-      go (inr (inl (e, h))) = q .chain (c .element) (c .i) (c .j) (h .choice) (h .reached) (h .apart) (rw (h .is) at (h .forbidden))
-      go (inr (inr (e, h))) = q .cycle (c .element) (c .i) (c .privilege) (h .choice) (h .reached) (h .below) (h .forbidden)
+  -- no type before x has a breach
+  abbrev pub CleanBefore : ℕ → Type 0
+  CleanBefore x = (s : Spot) (p : ℕ) → BreachBy ws marks B s p → x ≤ s .element
 
-  pub none-clean : ((c : Breach) → ¬ IsBreach ws marks c) → Clean ws marks
+  pub clean-start : CleanBefore 0
+  clean-start s p b = omega arith
+
+  pub clean-more : {x : ℕ} → CleanBefore x → ((s : Spot) (p : ℕ) → BreachBy ws marks B s p → s .element ≢ x) → CleanBefore (x + 1)
+  clean-more h n s p b = let l = h s p b in let d = n s p b in omega arith
+
+  pub clean-all : CleanBefore (types ws) → (s : Spot) (p : ℕ) → ¬ BreachBy ws marks B s p
+  clean-all h s p b = omega (arith, h s p b, breach-type s p b)
+
+  -- what was found at one type, by its condition
+  pub at-none : {x : ℕ} {b : Breach} → Searched (BreachAt ws marks B x) b → b .condition ≡ None → (s : Spot) (p : ℕ) → BreachBy ws marks B s p → s .element ≢ x
+  at-none (none e n) k = λ s p h q. n s p (record { breach = h; here = q })
+  at-none {b = b} (first h f) k = absurd (subst (λ (d : Condition). BreachOf ws marks B d (spotOf b) (b .privilege)) k (h .breach))
+
+  pub at-first : {x : ℕ} {b : Breach} → CleanBefore x → Searched (BreachAt ws marks B x) b → b .condition ≢ None → Searched (BreachBy ws marks B) b
+  at-first h (none e n) d = absurd (d (ap (λ (a : Breach). a .condition) e))
+  at-first {x} {b} h (first g f) d = first (g .breach) (λ s p c l. go s p c l (lex-cases l))
+    where
+      go : (s : Spot) (p : ℕ) → BreachBy ws marks B s p → Lex (key s) (key (spotOf b))
+          → (s .element < b .element) ⊎ ((s .element ≡ b .element) × Lex (conditionNumber (s .condition) ∷ s .i ∷ s .j ∷ []) (conditionNumber (b .condition) ∷ b .i ∷ b .j ∷ []))
+          → ⊥
+      go s p c l (inl k) = omega (arith, h s p c, g .here)
+      go s p c l (inr (e, k)) = f s p (record { breach = c; here = e ∙ g .here }) l
+
+-- what a search has found is the first spot
+pub searched-first : {Breaks : Spot → ℕ → Type 0} {b : Breach} → Searched Breaks b → b .condition ≢ None → FirstSpot Breaks (spotOf b)
+searched-first (none e n) d = absurd (d (ap (λ (a : Breach). a .condition) e))
+searched-first {b = b} (first h f) d = record { broken = (b .privilege, h); first = f }
+
+module _ (ws marks : List ℕ) where
+  abbrev Here : ℕ → ℕ → Type 0
+  Here = ForbiddenBelow ws marks
+
+  pub first-one : {b c : Breach} → FirstBreach ws marks b → FirstBreach ws marks c → b ≡ c
+  first-one {b} {c} f g =
+      let e : spotOf b ≡ spotOf c = spot-one (f .spot) (g .spot) in
+      breach-one b c e (omega (arith, f .lowest (c .privilege) (rw e (g .breach)), g .lowest (b .privilege) (rw (← e) (f .breach))))
+
+  -- a clean policy has no breach, and one with none is clean
+  pub clean-none : Clean ws marks → (s : Spot) (p : ℕ) → ¬ IsBreach ws marks s p
+  clean-none q s p b = go (breach-cases ws marks Here s p b)
+    where
+      go : Cases ws marks Here s p → ⊥
+      go (inl (e, h)) = q .insert-delete (s .element) p (h .star) (h .insert) (h .delete) (h .below .below) (h .below .forbidden)
+      go (inr (inl (e, h))) = q .chain (s .element) (s .i) (s .j) (h .choice) (h .reached) (h .can) (rw (h .is) at (h .forbidden))
+      go (inr (inr (e, h))) = q .cycle (s .element) (s .i) p (h .choice) (h .reached) (h .below .below) (h .below .forbidden)
+
+  pub none-clean : ((s : Spot) (p : ℕ) → ¬ IsBreach ws marks s p) → Clean ws marks
   none-clean n = record {
-    insert-delete = λ x p s a b w f. n (record { condition = InsertDelete; element = x; i = 0; j = 0; privilege = p })
-        (record { star = s; zero-i = refl; zero-j = refl; insert = a; delete = b; below = w; forbidden = f });
-    chain = λ x i j s r a f. n (record { condition = Chain; element = x; i = i; j = j; privilege = replaceOf ws x i j })
-        (record { choice = s; reached = r; apart = a; is = refl; forbidden = f });
-    cycle = λ x i p s r w f. n (record { condition = Cycle; element = x; i = i; j = i; privilege = p })
-        (record { choice = s; same = refl; reached = r; below = w; forbidden = f });
+    insert-delete = λ x p s a b w f. n (record { condition = InsertDelete; element = x; i = 0; j = 0 }) p
+        (record { star = s; zero-i = refl; zero-j = refl; insert = a; delete = b; below = record { below = w; forbidden = f } });
+    chain = λ x i j s r c f. n (record { condition = Chain; element = x; i = i; j = j }) (replaceOf ws x i j)
+        (record { choice = s; reached = r; can = c; is = refl; forbidden = f });
+    cycle = λ x i p s r w f. n (record { condition = Cycle; element = x; i = i; j = i }) p
+        (record { choice = s; same = refl; reached = r; below = record { below = w; forbidden = f } });
   }
 
   -- a policy has one verdict
   pub verdict-one : {b c : Breach} → Verdict ws marks b → Verdict ws marks c → b ≡ c
   verdict-one (clean q e) (clean r f) = e ∙ sym f
-  verdict-one {c = c} (clean q e) (broken g) = absurd (clean-none q c (g .breach))
-  verdict-one {b = b} (broken f) (clean r e) = absurd (clean-none r b (f .breach))
+  verdict-one {c = c} (clean q e) (broken g) = absurd (clean-none q (spotOf c) (c .privilege) (g .breach))
+  verdict-one {b = b} (broken f) (clean r e) = absurd (clean-none r (spotOf b) (b .privilege) (f .breach))
   verdict-one (broken f) (broken g) = first-one f g
-
-  -- no type before x has a breach
-  abbrev pub CleanBefore : ℕ → Type 0
-  CleanBefore x = (c : Breach) → IsBreach ws marks c → x ≤ c .element
-
-  pub clean-start : CleanBefore 0
-  clean-start c b = omega arith
-
-  pub clean-more : {x : ℕ} → CleanBefore x → ((c : Breach) → IsBreach ws marks c → c .element ≢ x) → CleanBefore (x + 1)
-  clean-more h n c b = let l = h c b in let d = n c b in omega arith
-
-  pub clean-all : CleanBefore (types ws) → Clean ws marks
-  clean-all h = none-clean (λ c b. omega (arith, h c b, breach-type c b))
-
-  pub first-found : {x : ℕ} {b : Breach} → CleanBefore x → IsBreach ws marks b → b .element ≡ x
-      → ((c : Breach) → IsBreach ws marks c → c .element ≡ x → ¬ Lex (key c) (key b)) → FirstBreach ws marks b
-  first-found {x} {b} h is at f = record { breach = is; first = λ c g l. go c g l (lex-cases l) }
-    where
-      go : (c : Breach) → IsBreach ws marks c → Lex (key c) (key b)
-          → (c .element < b .element) ⊎ ((c .element ≡ b .element) × Lex (conditionNumber (c .condition) ∷ c .i ∷ c .j ∷ c .privilege ∷ []) (conditionNumber (b .condition) ∷ b .i ∷ b .j ∷ b .privilege ∷ []))
-          → ⊥
-      go c g l (inl k) = omega (arith, h c g)
-      go c g l (inr (e, k)) = f c g (e ∙ at) l
-
-  -- what was found at one type, by its condition
-  pub at-none : {x : ℕ} {b : Breach} → BreachAt ws marks x b → b .condition ≡ None → (c : Breach) → IsBreach ws marks c → c .element ≢ x
-  at-none (none e n) k = n
-  at-none {b = b} (first h q f) k = absurd (subst (λ (d : Condition). BreachOf ws marks d b) k h)
-
-  pub at-first : {x : ℕ} {b : Breach} → CleanBefore x → BreachAt ws marks x b → b .condition ≢ None → FirstBreach ws marks b
-  at-first h (none e n) d = absurd (d (ap (λ (a : Breach). a .condition) e))
-  at-first h (first g q f) d = first-found h g q f
 
   -- what a verdict says, by its breach's condition
   pub verdict-clean : {b : Breach} → Verdict ws marks b → b .condition ≡ None → Clean ws marks
   verdict-clean (clean q e) k = q
-  verdict-clean {b} (broken f) k = absurd (subst (λ (d : Condition). BreachOf ws marks d b) k (f .breach))
+  verdict-clean {b} (broken f) k = absurd (subst (λ (d : Condition). BreachOf ws marks Here d (spotOf b) (b .privilege)) k (f .breach))
 
   pub verdict-broken : {b : Breach} → Verdict ws marks b → b .condition ≢ None → FirstBreach ws marks b
   verdict-broken (clean q e) d = absurd (d (ap (λ (a : Breach). a .condition) e))

@@ -4,7 +4,7 @@ use mathlib.Core.List.{List}
 use Prim.Native.Nat.{ℕ}
 use Rattle.verdict.specs.Answers.{refusal, verdictOf, JudgeAnswer, refused, judged}
 use Rattle.verdict.specs.declared.Answer.{Answer}
-use Rattle.verdict.proofs.Policies.{refused-one, policy-not}
+use Rattle.policy.proofs.Policies.{refused-one, policy-not}
 use Rattle.verdict.proofs.Firsts.{verdict-one}
 
 pub refusal-one : {n m p q : ℕ} → (n ≡ m) × (p ≡ q) → refusal n p ≡ refusal m q

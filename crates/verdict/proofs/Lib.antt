@@ -1,12 +1,8 @@
 -- Laws of the definitions of specs/, a file for each notion, and tests that compute them; the layers above use what is marked pub.
 pub mod Lows
-pub mod Policies
 pub mod Firsts
 pub mod Breached
-pub mod Closures
-pub mod SquareLaws
-pub mod Bits
-pub mod Packing
+pub mod Kept
 pub mod Forced
 pub mod Carried
 pub mod Renumbered

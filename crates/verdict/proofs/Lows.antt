@@ -1,6 +1,6 @@
 -- The lowest forbidden privilege of a type's own, and below it. Assumes nothing.
 use Prim.Native.Nat.{ℕ, suc, _+_, _-_, _≤_, _<_}
-use mathlib.Core.Path.{_≡_, _∙_}
+use mathlib.Core.Path.{_≡_, refl, _∙_}
 use mathlib.Core.Logic.{_≢_, _⊎_, inl, inr}
 use mathlib.Core.List.{List}
 use native.Mathlib.Nat.{eq-or-lt-of-le}
@@ -11,12 +11,13 @@ use Rattle.table.specs.Words.{types}
 use Rattle.table.specs.Rule.{childrenAt, childAt, Child}
 use Rattle.table.specs.Privilege.{firstPrivilege, privilegesAt, Belongs}
 use Rattle.table.specs.Below.{Below, here, down}
-use Rattle.table.specs.Order.{BottomUp}
+use Rattle.table.specs.steps.Order.{BottomUp}
 use Rattle.table.proofs.Lists.{le-or-lt}
 use Rattle.table.proofs.Privileges.{belongs-below}
 use Rattle.table.proofs.Facts.{facts, child-at}
-use Rattle.verdict.specs.Marks.{Policy}
-use Rattle.verdict.specs.Below.{ForbiddenBelow, ForbiddenOwn, Low, Range, Least, OwnLows}
+use Rattle.policy.specs.Marks.{Policy}
+use Rattle.verdict.specs.Below.{ForbiddenBelow}
+use Rattle.verdict.specs.steps.Lows.{ForbiddenOwn, Low, Range, Least, Lows}
 
 -- none, and the first
 pub low-none : {P : ℕ → Type 0} → ((q : ℕ) → ¬ P q) → Low P 65535
@@ -92,13 +93,14 @@ module _ {ws marks : List ℕ} (pol : Policy ws marks) {y : ℕ} (l : y < types 
           omega (arith, kids z c .least q f)
 
 -- a pass along the order that stands at k: those passed have the lowest below, the others that of their own
-pub record Climbed (ws marks order : List ℕ) (k : ℕ) (low : List ℕ) : Type 0 where
+pub record Climbed (ws marks order : List ℕ) (k : ℕ) (old low : List ℕ) : Type 0 where
   pub within : k ≤ types ws
   pub size : length low ≡ 256
   pub done : (j : ℕ) → j < k → Low (ForbiddenBelow ws marks (getD order j 0)) (getD low (getD order j 0) 0)
   pub left : (j : ℕ) → k ≤ j → j < types ws → Low (ForbiddenOwn ws marks (getD order j 0)) (getD low (getD order j 0) 0)
+  pub rest : (x : ℕ) → types ws ≤ x → getD low x 0 ≡ getD old x 0
 
-module _ {ws marks order : List ℕ} {k : ℕ} {low : List ℕ} (pol : Policy ws marks) (up : BottomUp ws order) (p : Climbed ws marks order k low)
+module _ {ws marks order : List ℕ} {k : ℕ} {old low : List ℕ} (pol : Policy ws marks) (up : BottomUp ws order) (p : Climbed ws marks order k old low)
     (h : k < types ws) where
   few : types ws ≤ 256
   few = facts (pol .accepted) .few
@@ -110,12 +112,13 @@ module _ {ws marks order : List ℕ} {k : ℕ} {low : List ℕ} (pol : Policy ws
       go (j, l, e) = rw e at (p .done j (up .after j k l h (rw e c)))
 
   pub climb-more : {r : ℕ} → Least (length (childrenAt ws (getD order k 0))) (childrenAt ws (getD order k 0)) low (getD low (getD order k 0) 0) r
-      → Climbed ws marks order (k + 1) (set low (getD order k 0) r)
+      → Climbed ws marks order (k + 1) old (set low (getD order k 0) r)
   climb-more {r} least = record {
     within = omega arith;
     size = length-set low (getD order k 0) r ∙ p .size;
     done = λ j l. go j (omega arith) (eq-or-lt-of-le l);
     left = λ j l m. rw (other j m (omega arith)) (p .left j (omega arith) m);
+    rest = λ x l. getD-set-other low (getD order k 0) x r 0 (λ e. omega (arith, up .inside k h)) ∙ p .rest x l;
   }
     where
       here-now : getD (set low (getD order k 0) r) (getD order k 0) 0 ≡ r
@@ -130,15 +133,15 @@ module _ {ws marks order : List ℕ} {k : ℕ} {low : List ℕ} (pol : Policy ws
           rw (q, here-now) (low-join pol (up .inside k h) kids-done (p .left k (omega arith) h) least)
       go j m (inr l) = rw (other j m (omega arith)) (p .done j (omega arith))
 
-pub climb-start : {ws marks order low : List ℕ} → BottomUp ws order → OwnLows ws marks low → Climbed ws marks order 0 low
-climb-start up o = record { within = omega arith; size = o .size; done = λ j l. absurd (omega arith); left = λ j l m. o .each _ (up .inside j m) }
+pub climb-start : {ws marks order old low : List ℕ} → BottomUp ws order → Lows ws (ForbiddenOwn ws marks) old low → Climbed ws marks order 0 low low
+climb-start up o = record { within = omega arith; size = o .size; done = λ j l. absurd (omega arith); left = λ j l m. o .each _ (up .inside j m); rest = λ x l. refl }
 
-pub climb-all : {ws marks order low : List ℕ} {k : ℕ} → BottomUp ws order → Climbed ws marks order k low → types ws ≤ k
-    → (x : ℕ) → x < types ws → Low (ForbiddenBelow ws marks x) (getD low x 0)
-climb-all {ws} {marks} {order} {low} {k} up p h x l = go (up .every x l)
+pub climb-all : {ws marks order old own low : List ℕ} {k : ℕ} → BottomUp ws order → Lows ws (ForbiddenOwn ws marks) old own → Climbed ws marks order k own low → types ws ≤ k
+    → Lows ws (ForbiddenBelow ws marks) old low
+climb-all {ws} {marks} {order} {low = low} up o p h = record { size = p .size; each = λ x l. go x (up .every x l); rest = λ x l. p .rest x l ∙ o .rest x l }
   where
-    go : (j : ℕ) × (j < types ws) × (getD order j 0 ≡ x) → Low (ForbiddenBelow ws marks x) (getD low x 0)
-    go (j, m, e) = rw e at (p .done j (omega arith))
+    go : (x : ℕ) → (j : ℕ) × (j < types ws) × (getD order j 0 ≡ x) → Low (ForbiddenBelow ws marks x) (getD low x 0)
+    go x (j, m, e) = rw e at (p .done j (omega arith))
 
 -- a privilege below a type is below 65,535
 pub below-small : {ws marks : List ℕ} {y p : ℕ} → Policy ws marks → ForbiddenBelow ws marks y p → p < 4096

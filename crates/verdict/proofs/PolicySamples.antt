@@ -10,8 +10,8 @@ use Rattle.table.specs.Rule.{ruleOf, ruleAt, childrenAt, countOf}
 use Rattle.table.specs.Privilege.{privilegesAt, firstPrivilege, privileges, replaceOf}
 use Rattle.table.proofs.Tables.{Each, each-computed, marksOf, lone, four, figure, hospital}
 use Rattle.table.proofs.Test.{Test, and-out}
-use Rattle.verdict.specs.Marks.{Policy}
-use Rattle.verdict.specs.Breaches.{noBreach, IsBreach, Verdict}
+use Rattle.policy.specs.Marks.{Policy}
+use Rattle.verdict.specs.Breaches.{noBreach, IsBreach, Verdict, spotOf}
 use Rattle.verdict.specs.declared.Breach.{Breach}
 use Rattle.verdict.specs.declared.Condition.{Condition}
 use Rattle.verdict.specs.declared.Condition.the-variants.{InsertDelete, Chain, Cycle}
@@ -114,6 +114,6 @@ named =
     table1 : Breach → Row
     table1 b = row hospital 11_2_12_21_21_21_2_1_2_1 b
 
-pub breaches : Each (λ r. IsBreach (r .words) (r .marks) (r .breach)) named
+pub breaches : Each (λ r. IsBreach (r .words) (r .marks) (spotOf (r .breach)) (r .breach .privilege)) named
 unfolding sumBelow ruleOf ruleAt childrenAt countOf privilegesAt firstPrivilege privileges replaceOf
-breaches = each-by (λ r. breach (r .words) (r .marks) (r .breach)) named tt
+breaches = each-by (λ r. breach (r .words) (r .marks) (spotOf (r .breach)) (r .breach .privilege)) named tt

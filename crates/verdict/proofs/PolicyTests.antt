@@ -2,9 +2,9 @@
 -- such keys. They hold of every run of words and of marks. Assumes nothing.
 use Prim.Native.Nat.{ℕ, zero, suc, _<_}
 use mathlib.Core.Path.{_≡_, refl, ap, subst⁻¹}
-use mathlib.Core.Logic.{_⊎_, inl, inr}
+use mathlib.Core.Logic.{inl, inr}
 use mathlib.Core.Bool.{Bool, false}
-use mathlib.Core.List.{List, [], _∷_}
+use mathlib.Core.List.{List, [], _∷_, _++_}
 use mathlib.Core.Option.{Option, none, some as found}
 use native.Mathlib.Omega.{arith}
 use lib.Dec.{T}
@@ -14,24 +14,24 @@ use Rattle.table.specs.Rule.{countOf, childAt}
 use Rattle.table.specs.Privilege.{privileges, insertOf, deleteOf, replaceOf, replace}
 use Rattle.table.proofs.Privileges.{belongs-below, edit-below}
 use Rattle.table.specs.Check.{Accepted}
-use Rattle.table.proofs.Test.{Test, isAtMost, isEqual, both, fails, means, some, every}
+use Rattle.table.proofs.Test.{Test, isAtMost, isEqual, both, means, some, every}
 use Rattle.table.proofs.Answers.{accepted-answer}
 use Rattle.table.proofs.TableTests.{ofKind, replaceable, belongs, answerOf, answer-of}
-use Rattle.verdict.specs.Marks.{Allowed, Forbidden, Fit, Policy}
+use Rattle.policy.specs.Marks.{Allowed, Forbidden, Fit, Policy}
 use Rattle.verdict.specs.Below.{PrivilegeBelow, ForbiddenBelow}
-use Rattle.verdict.specs.Reached.{Step, Reached}
-use Rattle.verdict.specs.Breaches.{conditionNumber, noBreach, InsertDeleteBreach, ChainBreach, CycleBreach, BreachOf, IsBreach}
-use Rattle.verdict.specs.Breaches.{key, Verdict, clean, broken}
+use Rattle.policy.specs.Reached.{Step, Reached}
+use Rattle.verdict.specs.Breaches.{conditionNumber, noBreach, Spot, InsertDeleteBreach, ChainBreach, CycleBreach, BreachOf, IsBreach}
+use Rattle.verdict.specs.Breaches.{Lex, less, same, Verdict, clean, broken}
 use Rattle.verdict.specs.declared.Breach.{Breach}
 use Rattle.verdict.specs.declared.Condition.{Condition}
 use Rattle.verdict.specs.declared.Condition.the-variants.{None, InsertDelete, Chain, Cycle}
-use Rattle.verdict.proofs.Firsts.{conditionOf, condition-of, breach-cases, none-clean}
-use Rattle.verdict.proofs.Breached.{reached-from}
-use Rattle.verdict.proofs.Forced.{reached-replaceable}
-use Rattle.verdict.proofs.Policies.{table-accepted}
+use Rattle.table.proofs.Lists.{le-or-lt}
+use Rattle.verdict.proofs.Firsts.{conditionOf, condition-of, Cases, breach-cases, none-clean}
+use Rattle.policy.proofs.Policies.{table-accepted}
 use Rattle.table.proofs.Walks.{closure}
 use Rattle.table.proofs.BelowTests.{below}
 use Rattle.verdict.proofs.Boxes.{Box, end, more, Inside, firstIn, Finds, first-in}
+use Rattle.policy.proofs.Reaches.{reached-from}
 
 module _ (ws : List ℕ) where
   abbrev pub privilegeBelow : (p y : ℕ) → Test (PrivilegeBelow ws p y)
@@ -73,51 +73,56 @@ module _ (ws marks : List ℕ) where
   reached x = closure (countOf ws x) (λ i j s. s .can .to) (step x)
 
   -- a breach of each condition: what is cheapest to test stands first
-  abbrev pub insertDeleteBreach : (b : Breach) → Test (InsertDeleteBreach ws marks b)
-  insertDeleteBreach b = means
-      (λ h. record {
-        forbidden = h .0;
-        zero-i = h .1 .0;
-        zero-j = h .1 .1 .0;
-        star = h .1 .1 .1 .0;
-        insert = h .1 .1 .1 .1 .0;
-        delete = h .1 .1 .1 .1 .1 .0;
-        below = h .1 .1 .1 .1 .1 .1;
-      })
-      (λ h. (h .forbidden, (h .zero-i, (h .zero-j, (h .star, (h .insert, (h .delete, h .below)))))))
-      (both (forbidden marks (b .privilege)) (both (isEqual (b .i) 0) (both (isEqual (b .j) 0) (both (ofKind ws (b .element) 4)
-      (both (allowed marks (insertOf ws (b .element))) (both (allowed marks (deleteOf ws (b .element)))
-      (privilegeBelow ws (b .privilege) (childAt ws (b .element) 0))))))))
+  abbrev Here : ℕ → ℕ → Type 0
+  Here = ForbiddenBelow ws marks
 
-  abbrev pub chainBreach : (b : Breach) → Test (ChainBreach ws marks b)
-  chainBreach b = means
-      (λ h. record { forbidden = h .0; apart = h .1 .0; choice = h .1 .1 .0; is = h .1 .1 .1 .0; reached = h .1 .1 .1 .1 })
-      (λ h. (h .forbidden, (h .apart, (h .choice, (h .is, h .reached)))))
-      (both (forbidden marks (b .privilege)) (both (fails (isEqual (b .i) (b .j))) (both (ofKind ws (b .element) 3)
-      (both (isEqual (b .privilege) (replaceOf ws (b .element) (b .i) (b .j))) (reached (b .element) (b .i) (b .j))))))
+  abbrev pub insertDeleteBreach : (s : Spot) (p : ℕ) → Test (InsertDeleteBreach ws marks Here s p)
+  insertDeleteBreach s p = means
+      (λ h. record { zero-i = h .0; zero-j = h .1 .0; star = h .1 .1 .0; insert = h .1 .1 .1 .0; delete = h .1 .1 .1 .1 .0; below = h .1 .1 .1 .1 .1 })
+      (λ h. (h .zero-i, (h .zero-j, (h .star, (h .insert, (h .delete, h .below))))))
+      (both (isEqual (s .i) 0) (both (isEqual (s .j) 0) (both (ofKind ws (s .element) 4) (both (allowed marks (insertOf ws (s .element)))
+      (both (allowed marks (deleteOf ws (s .element))) (forbiddenBelow (childAt ws (s .element) 0) p))))))
 
-  abbrev pub cycleBreach : (b : Breach) → Test (CycleBreach ws marks b)
-  cycleBreach b = means
-      (λ h. record { forbidden = h .0; same = h .1 .0; choice = h .1 .1 .0; below = h .1 .1 .1 .0; reached = h .1 .1 .1 .1 })
-      (λ h. (h .forbidden, (h .same, (h .choice, (h .below, h .reached)))))
-      (both (forbidden marks (b .privilege)) (both (isEqual (b .j) (b .i)) (both (ofKind ws (b .element) 3)
-      (both (privilegeBelow ws (b .privilege) (childAt ws (b .element) (b .i))) (reached (b .element) (b .i) (b .i))))))
+  abbrev pub chainBreach : (s : Spot) (p : ℕ) → Test (ChainBreach ws marks s p)
+  chainBreach s p = means
+      (λ h. record { forbidden = h .0; can = h .1 .0; choice = h .1 .1 .0; is = h .1 .1 .1 .0; reached = h .1 .1 .1 .1 })
+      (λ h. (h .forbidden, (h .can, (h .choice, (h .is, h .reached)))))
+      (both (forbidden marks p) (both (replaceable ws (s .element) (s .i) (s .j)) (both (ofKind ws (s .element) 3)
+      (both (isEqual p (replaceOf ws (s .element) (s .i) (s .j))) (reached (s .element) (s .i) (s .j))))))
 
-  abbrev breachOf : (c : Condition) (b : Breach) → Test (BreachOf ws marks c b)
-  breachOf None b = record { run = false; out = λ h. h; into = λ h. h }
-  breachOf InsertDelete b = insertDeleteBreach b
-  breachOf Chain b = chainBreach b
-  breachOf Cycle b = cycleBreach b
+  abbrev pub cycleBreach : (s : Spot) (p : ℕ) → Test (CycleBreach ws marks Here s p)
+  cycleBreach s p = means
+      (λ h. record { same = h .0; choice = h .1 .0; below = h .1 .1 .0; reached = h .1 .1 .1 })
+      (λ h. (h .same, (h .choice, (h .below, h .reached))))
+      (both (isEqual (s .j) (s .i)) (both (ofKind ws (s .element) 3)
+      (both (forbiddenBelow (childAt ws (s .element) (s .i)) p) (reached (s .element) (s .i) (s .i)))))
 
-  abbrev pub breach : (b : Breach) → Test (IsBreach ws marks b)
-  breach b = breachOf (b .condition) b
+  abbrev breachOf : (c : Condition) (s : Spot) (p : ℕ) → Test (BreachOf ws marks Here c s p)
+  breachOf None s p = record { run = false; out = λ h. h; into = λ h. h }
+  breachOf InsertDelete s p = insertDeleteBreach s p
+  breachOf Chain s p = chainBreach s p
+  breachOf Cycle s p = cycleBreach s p
 
--- the breach with a key
-abbrev byKey : List ℕ → Breach
-byKey s = record { condition = conditionOf (getD s 1 0); element = getD s 0 0; i = getD s 2 0; j = getD s 3 0; privilege = getD s 4 0 }
+  abbrev pub breach : (s : Spot) (p : ℕ) → Test (IsBreach ws marks s p)
+  breach s p = breachOf (s .condition) s p
 
-by-key : (b : Breach) → byKey (key b) ≡ b
-by-key b = λ d. record { condition = condition-of (b .condition) d; element = b .element; i = b .i; j = b .j; privilege = b .privilege }
+-- a spot and a privilege there as a list of five numbers, and back
+abbrev listed : Spot → ℕ → List ℕ
+listed s p = s .element ∷ conditionNumber (s .condition) ∷ s .i ∷ s .j ∷ p ∷ []
+
+abbrev spotIn : List ℕ → Spot
+spotIn l = record { condition = conditionOf (getD l 1 0); element = getD l 0 0; i = getD l 2 0; j = getD l 3 0 }
+
+abbrev breachIn : List ℕ → Breach
+breachIn l = record { condition = conditionOf (getD l 1 0); element = getD l 0 0; i = getD l 2 0; j = getD l 3 0; privilege = getD l 4 0 }
+
+spot-in : (s : Spot) (p : ℕ) → spotIn (listed s p) ≡ s
+spot-in s p = λ d. record { condition = condition-of (s .condition) d; element = s .element; i = s .i; j = s .j }
+
+-- what stands behind two lists does not change which comes first
+lex-longer : {s t : List ℕ} (u v : List ℕ) → Lex s t → Lex (s ++ u) (t ++ v)
+lex-longer u v (less l) = less l
+lex-longer u v (same l) = same (lex-longer u v l)
 
 number-of : (c : ℕ) → c < 4 → conditionNumber (conditionOf c) ≡ c
 number-of zero l = refl
@@ -128,7 +133,7 @@ number-of (suc (suc (suc (suc c)))) l = absurd (omega arith)
 
 abbrev breachOr : Option (List ℕ) → Breach
 breachOr none = noBreach
-breachOr (found s) = byKey s
+breachOr (found s) = breachIn s
 
 module _ (ws marks : List ℕ) where
   -- the bounds of a breach's key: type, condition, i, j, privilege; condition 1 has i = j = 0
@@ -141,50 +146,54 @@ module _ (ws marks : List ℕ) where
   keys = more (types ws) (λ x. more 4 (λ c. more (width x c) (λ i. more (width x c) (λ j. more (privileges ws) (λ p. end)))))
 
   abbrev passes : List ℕ → Bool
-  passes s = breach ws marks (byKey s) .run
+  passes l = breach ws marks (spotIn l) (getD l 4 0) .run
 
   -- the first breach, or five zeros where there is none
   abbrev pub verdictBy : Breach
   verdictBy = breachOr (firstIn keys passes)
 
-  -- each list within the bounds is the key of its breach, and each breach has its key there
-  key-of : (s : List ℕ) → Inside keys s → key (byKey s) ≡ s
-  key-of [] h = absurd h
-  key-of (x ∷ []) h = absurd (h .1)
-  key-of (x ∷ c ∷ []) h = absurd (h .1 .1)
-  key-of (x ∷ c ∷ i ∷ []) h = absurd (h .1 .1 .1)
-  key-of (x ∷ c ∷ i ∷ j ∷ []) h = absurd (h .1 .1 .1 .1)
-  key-of (x ∷ c ∷ i ∷ j ∷ p ∷ []) h = ap (λ (n : ℕ). x ∷ n ∷ i ∷ j ∷ p ∷ []) (number-of c (h .1 .0))
-  key-of (x ∷ c ∷ i ∷ j ∷ p ∷ q ∷ s) h = absurd (h .1 .1 .1 .1 .1)
+  -- each list within the bounds is that of its spot and privilege, and each breach has its list there
+  listed-in : (l : List ℕ) → Inside keys l → listed (spotIn l) (getD l 4 0) ≡ l
+  listed-in [] h = absurd h
+  listed-in (x ∷ []) h = absurd (h .1)
+  listed-in (x ∷ c ∷ []) h = absurd (h .1 .1)
+  listed-in (x ∷ c ∷ i ∷ []) h = absurd (h .1 .1 .1)
+  listed-in (x ∷ c ∷ i ∷ j ∷ []) h = absurd (h .1 .1 .1 .1)
+  listed-in (x ∷ c ∷ i ∷ j ∷ p ∷ []) h = ap (λ (n : ℕ). x ∷ n ∷ i ∷ j ∷ p ∷ []) (number-of c (h .1 .0))
+  listed-in (x ∷ c ∷ i ∷ j ∷ p ∷ q ∷ s) h = absurd (h .1 .1 .1 .1 .1)
 
-  key-inside : (b : Breach) → IsBreach ws marks b → Inside keys (key b)
-  key-inside b is = go (breach-cases ws marks b is)
+  listed-inside : (s : Spot) (p : ℕ) → IsBreach ws marks s p → Inside keys (listed s p)
+  listed-inside s p is = go (breach-cases ws marks (Here ws marks) s p is)
     where
-      at : {c : Condition} → b .condition ≡ c → Inside keys (b .element ∷ conditionNumber c ∷ b .i ∷ b .j ∷ b .privilege ∷ [])
-          → Inside keys (key b)
-      at e h = subst⁻¹ (λ (c : Condition). Inside keys (b .element ∷ conditionNumber c ∷ b .i ∷ b .j ∷ b .privilege ∷ [])) e h
+      at : {c : Condition} → s .condition ≡ c → Inside keys (s .element ∷ conditionNumber c ∷ s .i ∷ s .j ∷ p ∷ []) → Inside keys (listed s p)
+      at e h = subst⁻¹ (λ (c : Condition). Inside keys (s .element ∷ conditionNumber c ∷ s .i ∷ s .j ∷ p ∷ [])) e h
 
-      go : ((b .condition ≡ InsertDelete) × InsertDeleteBreach ws marks b) ⊎ ((b .condition ≡ Chain) × ChainBreach ws marks b)
-          ⊎ ((b .condition ≡ Cycle) × CycleBreach ws marks b) → Inside keys (key b)
+      go : Cases ws marks (Here ws marks) s p → Inside keys (listed s p)
       go (inl (e, h)) =
-          at e (h .star .type, (omega arith, (omega (arith, h .zero-i), (omega (arith, h .zero-j), (belongs-below (h .below .belongs), tt)))))
+          at e (h .star .type, (omega arith, (omega (arith, h .zero-i), (omega (arith, h .zero-j), (belongs-below (h .below .below .belongs), tt)))))
       go (inr (inl (e, h))) =
-          let can = reached-replaceable (h .choice) (h .reached) (h .apart) in
-          at e (h .choice .type, (omega arith, (can .from, (can .to, (rw (h .is) (edit-below ws (replace (b .element) (b .i) (b .j)) can), tt)))))
+          at e (h .choice .type, (omega arith, (h .can .from, (h .can .to, (rw (h .is) (edit-below ws (replace (s .element) (s .i) (s .j)) (h .can)), tt)))))
       go (inr (inr (e, h))) =
           let from = reached-from (h .reached) in
-          at e (h .choice .type, (omega arith, (from, (rw (h .same) from, (belongs-below (h .below .belongs), tt)))))
+          at e (h .choice .type, (omega arith, (from, (rw (h .same) from, (belongs-below (h .below .below .belongs), tt)))))
 
-  key-passes : (b : Breach) → IsBreach ws marks b → T (passes (key b))
-  key-passes b is = breach ws marks (byKey (key b)) .into (subst⁻¹ (IsBreach ws marks) (by-key b) is)
+  listed-passes : (s : Spot) (p : ℕ) → IsBreach ws marks s p → T (passes (listed s p))
+  listed-passes s p is = breach ws marks (spotIn (listed s p)) p .into (subst⁻¹ (λ (t : Spot). IsBreach ws marks t p) (spot-in s p) is)
 
   -- so the verdict is the one computed
   verdict-of : (r : Option (List ℕ)) → Finds keys passes r → Verdict ws marks (breachOr r)
-  verdict-of none h = clean (none-clean ws marks (λ c b. h (key c) (key-inside c b) (key-passes c b))) refl
-  verdict-of (found s) h = broken (record {
-    breach = breach ws marks (byKey s) .out (h .1);
-    first = λ c b l. h .2 (key c) (key-inside c b) (key-passes c b) (rw (key-of s (h .0)) at l);
+  verdict-of none h = clean (none-clean ws marks (λ s p b. h (listed s p) (listed-inside s p b) (listed-passes s p b))) refl
+  verdict-of (found l) h = broken (record {
+    spot = record { broken = (getD l 4 0, here); first = λ t q b k. before t q b (lex-longer (q ∷ []) (getD l 4 0 ∷ []) k) };
+    breach = here;
+    lowest = λ q b. elim (le-or-lt (getD l 4 0) q) [ inl k ↦ k | inr k ↦ absurd (before (spotIn l) q b (same (same (same (same (less k)))))) ];
   })
+    where
+      here : IsBreach ws marks (spotIn l) (getD l 4 0)
+      here = breach ws marks (spotIn l) (getD l 4 0) .out (h .1)
+
+      before : (t : Spot) (q : ℕ) → IsBreach ws marks t q → ¬ Lex (listed t q) (listed (spotIn l) (getD l 4 0))
+      before t q b k = h .2 (listed t q) (listed-inside t q b) (listed-passes t q b) (rw (listed-in l (h .0)) at k)
 
   pub verdict-by : Verdict ws marks verdictBy
   verdict-by = verdict-of (firstIn keys passes) (first-in keys passes)

@@ -7,22 +7,22 @@ use native.Mathlib.Omega.{arith}
 use Rattle.table.specs.Words.{types}
 use Rattle.table.specs.Privilege.{Edit, insert, delete, replace, typeOf, Offers, privilegeOf}
 use Rattle.table.specs.Check.{Accepted}
-use Rattle.table.specs.Childed.{Childed}
+use Rattle.table.specs.steps.Childed.{Childed}
 use Rattle.table.specs.Renumbered.{Permutes, Renumbered, moved, renumber}
 use Rattle.table.proofs.Privileges.{belongs-one, edit-belongs, edit-some, edit-one}
 use Rattle.table.proofs.Facts.{facts, accepted-childed}
 use Rattle.table.proofs.Renumbered.{below-there, renumbered-back, moved-type, position-there, kind-there, offers-there}
 use Rattle.table.proofs.Renumber.{renumbered}
-use Rattle.verdict.specs.Marks.{Allowed, Forbidden, Policy}
+use Rattle.policy.specs.Marks.{Allowed, Forbidden, Policy}
 use Rattle.verdict.specs.Below.{PrivilegeBelow}
-use Rattle.verdict.specs.Reached.{Step}
+use Rattle.policy.specs.Reached.{Step}
 use Rattle.verdict.specs.Conditions.{Clean}
 use Rattle.verdict.specs.Forces.{Forces, insert-delete, chain, cycle}
 use Rattle.verdict.specs.Carried.{Carried}
-use Rattle.verdict.proofs.Closures.{plus-map}
-use Rattle.verdict.proofs.Breached.{reached-from}
-use Rattle.verdict.proofs.Forced.{reached-replaceable, forced-below, clean-forces, forces-clean}
+use Rattle.policy.proofs.Closures.{plus-map}
+use Rattle.verdict.proofs.Forced.{forced-below, clean-forces, forces-clean}
 use Rattle.verdict.proofs.Carried.{carried-back, carried-marks}
+use Rattle.policy.proofs.Reaches.{reached-from}
 
 module _ {f g : ℕ → ℕ} {ws vs marks carried : List ℕ} (r : Renumbered f g ws vs) (a : Accepted ws) (b : Accepted vs)
     (m : Carried f ws marks vs carried) where
@@ -50,8 +50,8 @@ module _ {f g : ℕ → ℕ} {ws vs marks carried : List ℕ} (r : Renumbered f 
       insert-delete (f x) (kind-there r c d s) (m .keeps (insert x) s ∙ i) (m .keeps (delete x) s ∙ j)
       (rw (position-there r c d 0 (s .type) (omega (arith, facts a .star-one x s))) (privilege-there e o w))
   forces-there e o (chain x i j s t n q) =
-      let same : e ≡ replace x i j = edit-one ws e (replace x i j) o (reached-replaceable s t n) q in
-      chain (f x) i j (kind-there r c d s) (plus-map step-there t) n (ap (λ (h : Edit). privilegeOf vs (moved f h)) same)
+      let same : e ≡ replace x i j = edit-one ws e (replace x i j) o n q in
+      chain (f x) i j (kind-there r c d s) (plus-map step-there t) (offers-there r c d (replace x i j) n) (ap (λ (h : Edit). privilegeOf vs (moved f h)) same)
   forces-there e o (cycle x i s t w) =
       cycle (f x) i (kind-there r c d s) (plus-map step-there t) (rw (position-there r c d i (s .type) (reached-from t)) (privilege-there e o w))
 

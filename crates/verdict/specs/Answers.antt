@@ -2,7 +2,7 @@
 use Prim.Native.Nat.{ℕ}
 use mathlib.Core.Path.{_≡_}
 use mathlib.Core.List.{List}
-use Rattle.verdict.specs.Marks.{NoPolicy, Policy}
+use Rattle.policy.specs.Marks.{NoPolicy, Policy}
 use Rattle.verdict.specs.Breaches.{noBreach, Verdict}
 use Rattle.verdict.specs.declared.Answer.{Answer}
 use Rattle.verdict.specs.declared.Breach.{Breach}

@@ -1,13 +1,12 @@
 -- A breach, the stated order of breaches, the first breach and the verdict (document 01, "The three conditions"). Assumes nothing.
-use Prim.Native.Nat.{ℕ, _<_}
+use Prim.Native.Nat.{ℕ, _≤_, _<_}
 use mathlib.Core.Path.{_≡_}
-use mathlib.Core.Logic.{_≢_}
 use mathlib.Core.List.{List, [], _∷_}
 use Rattle.table.specs.Rule.{IsChoice, IsStar, childAt}
-use Rattle.table.specs.Privilege.{insertOf, deleteOf, replaceOf}
-use Rattle.verdict.specs.Marks.{Allowed, Forbidden}
-use Rattle.verdict.specs.Below.{PrivilegeBelow}
-use Rattle.verdict.specs.Reached.{Reached}
+use Rattle.table.specs.Privilege.{insertOf, deleteOf, replaceOf, Replaceable}
+use Rattle.policy.specs.Marks.{Allowed, Forbidden}
+use Rattle.verdict.specs.Below.{ForbiddenBelow}
+use Rattle.policy.specs.Reached.{Reached}
 use Rattle.verdict.specs.Conditions.{Clean}
 use Rattle.verdict.specs.declared.Breach.{Breach}
 use Rattle.verdict.specs.declared.Condition.{Condition}
@@ -24,60 +23,74 @@ conditionNumber Cycle = 3
 abbrev pub noBreach : Breach
 noBreach = record { condition = None; element = 0; i = 0; j = 0; privilege = 0 }
 
--- a breach of condition 1: i and j are 0
-pub record InsertDeleteBreach (ws marks : List ℕ) (b : Breach) : Type 0 where
-  pub star : IsStar ws (b .element)
-  pub zero-i : b .i ≡ 0
-  pub zero-j : b .j ≡ 0
-  pub insert : Allowed marks (insertOf ws (b .element))
-  pub delete : Allowed marks (deleteOf ws (b .element))
-  pub below : PrivilegeBelow ws (b .privilege) (childAt ws (b .element) 0)
-  pub forbidden : Forbidden marks (b .privilege)
+-- where a breach is: the condition, the type at which it is broken, and the two positions there
+pub record Spot : Type 0 where
+  pub condition : Condition
+  pub element : ℕ
+  pub i : ℕ
+  pub j : ℕ
 
--- a breach of condition 2: the privilege is the forbidden replacement
-pub record ChainBreach (ws marks : List ℕ) (b : Breach) : Type 0 where
-  pub choice : IsChoice ws (b .element)
-  pub reached : Reached ws (Allowed marks) (b .element) (b .i) (b .j)
-  pub apart : b .i ≢ b .j
-  pub is : b .privilege ≡ replaceOf ws (b .element) (b .i) (b .j)
-  pub forbidden : Forbidden marks (b .privilege)
+abbrev pub spotOf : Breach → Spot
+spotOf b = record { condition = b .condition; element = b .element; i = b .i; j = b .j }
 
--- a breach of condition 3: j is i
-pub record CycleBreach (ws marks : List ℕ) (b : Breach) : Type 0 where
-  pub choice : IsChoice ws (b .element)
-  pub same : b .j ≡ b .i
-  pub reached : Reached ws (Allowed marks) (b .element) (b .i) (b .i)
-  pub below : PrivilegeBelow ws (b .privilege) (childAt ws (b .element) (b .i))
-  pub forbidden : Forbidden marks (b .privilege)
+-- Privilege p breaks a condition at the spot s. B y p says that p is forbidden below type y; in a policy it is ForbiddenBelow.
+-- condition 1: i and j are 0
+pub record InsertDeleteBreach (ws marks : List ℕ) (B : ℕ → ℕ → Type 0) (s : Spot) (p : ℕ) : Type 0 where
+  pub star : IsStar ws (s .element)
+  pub zero-i : s .i ≡ 0
+  pub zero-j : s .j ≡ 0
+  pub insert : Allowed marks (insertOf ws (s .element))
+  pub delete : Allowed marks (deleteOf ws (s .element))
+  pub below : B (childAt ws (s .element) 0) p
 
-abbrev pub BreachOf : List ℕ → List ℕ → Condition → Breach → Type 0
-BreachOf ws marks None b = ⊥
-BreachOf ws marks InsertDelete b = InsertDeleteBreach ws marks b
-BreachOf ws marks Chain b = ChainBreach ws marks b
-BreachOf ws marks Cycle b = CycleBreach ws marks b
+-- condition 2: p is the forbidden replacement
+pub record ChainBreach (ws marks : List ℕ) (s : Spot) (p : ℕ) : Type 0 where
+  pub choice : IsChoice ws (s .element)
+  pub reached : Reached ws (Allowed marks) (s .element) (s .i) (s .j)
+  pub can : Replaceable ws (s .element) (s .i) (s .j)
+  pub is : p ≡ replaceOf ws (s .element) (s .i) (s .j)
+  pub forbidden : Forbidden marks p
 
-abbrev pub IsBreach : List ℕ → List ℕ → Breach → Type 0
-IsBreach ws marks b = BreachOf ws marks (b .condition) b
+-- condition 3: j is i
+pub record CycleBreach (ws marks : List ℕ) (B : ℕ → ℕ → Type 0) (s : Spot) (p : ℕ) : Type 0 where
+  pub choice : IsChoice ws (s .element)
+  pub same : s .j ≡ s .i
+  pub reached : Reached ws (Allowed marks) (s .element) (s .i) (s .i)
+  pub below : B (childAt ws (s .element) (s .i)) p
 
--- the stated order: lowest type, then condition, then i, then j, then the lowest privilege
-abbrev pub key : Breach → List ℕ
-key b = b .element ∷ conditionNumber (b .condition) ∷ b .i ∷ b .j ∷ b .privilege ∷ []
+abbrev pub BreachOf : List ℕ → List ℕ → (ℕ → ℕ → Type 0) → Condition → Spot → ℕ → Type 0
+BreachOf ws marks B None s p = ⊥
+BreachOf ws marks B InsertDelete s p = InsertDeleteBreach ws marks B s p
+BreachOf ws marks B Chain s p = ChainBreach ws marks s p
+BreachOf ws marks B Cycle s p = CycleBreach ws marks B s p
+
+abbrev pub BreachBy : List ℕ → List ℕ → (ℕ → ℕ → Type 0) → Spot → ℕ → Type 0
+BreachBy ws marks B s p = BreachOf ws marks B (s .condition) s p
+
+-- privilege p breaks the policy at s
+abbrev pub IsBreach : List ℕ → List ℕ → Spot → ℕ → Type 0
+IsBreach ws marks s p = BreachBy ws marks (ForbiddenBelow ws marks) s p
+
+-- the stated order of spots: lowest type, then condition, then i, then j
+abbrev pub key : Spot → List ℕ
+key s = s .element ∷ conditionNumber (s .condition) ∷ s .i ∷ s .j ∷ []
 
 pub data Lex : List ℕ → List ℕ → Type 0 where
   less : {a b : ℕ} {s t : List ℕ} → a < b → Lex (a ∷ s) (b ∷ t)
   same : {a : ℕ} {s t : List ℕ} → Lex s t → Lex (a ∷ s) (a ∷ t)
 
+-- the first spot that is broken; Breaks s p says that p breaks it
+pub record FirstSpot (Breaks : Spot → ℕ → Type 0) (s : Spot) : Type 0 where
+  pub broken : (p : ℕ) × Breaks s p
+  pub first : (t : Spot) (q : ℕ) → Breaks t q → ¬ Lex (key t) (key s)
+
+-- the first breach: at the first spot, by the lowest privilege
 pub record FirstBreach (ws marks : List ℕ) (b : Breach) : Type 0 where
-  pub breach : IsBreach ws marks b
-  pub first : (c : Breach) → IsBreach ws marks c → ¬ Lex (key c) (key b)
+  pub spot : FirstSpot (IsBreach ws marks) (spotOf b)
+  pub breach : IsBreach ws marks (spotOf b) (b .privilege)
+  pub lowest : (q : ℕ) → IsBreach ws marks (spotOf b) q → b .privilege ≤ q
 
 -- five zeros if no condition is broken, else the first breach
 pub data Verdict (ws marks : List ℕ) (b : Breach) : Type 0 where
   clean : Clean ws marks → b ≡ noBreach → Verdict ws marks b
   broken : FirstBreach ws marks b → Verdict ws marks b
-
--- the first breach at type x, or five zeros where it has none
-pub data BreachAt (ws marks : List ℕ) (x : ℕ) (b : Breach) : Type 0 where
-  none : b ≡ noBreach → ((c : Breach) → IsBreach ws marks c → c .element ≢ x) → BreachAt ws marks x b
-  first : IsBreach ws marks b → b .element ≡ x → ((c : Breach) → IsBreach ws marks c → c .element ≡ x → ¬ Lex (key c) (key b))
-      → BreachAt ws marks x b

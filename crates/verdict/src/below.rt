@@ -1,13 +1,14 @@
-// What is forbidden below each type, in one pass along the order in which every type comes after its children.
-// Contracts cite specs/Below.
+// What is forbidden below each type, in one pass along the order in which every type comes after its children, and kept: a number for each
+// type. Only this file knows that 65,535 stands for none. Contracts cite specs/Below, and specs/steps/Lows for the parts.
 ghost use mathlib.Core.Path.{_≡_};
 ghost use Prim.Native.Nat.{ℕ, _≤_, _<_};
 ghost use lib.ListN.{length, getD};
 ghost use Rattle.table.specs.Words.{types};
-ghost use Rattle.table.specs.Order.{BottomUp};
-ghost use Rattle.verdict.specs.Marks.{Policy};
-ghost use Rattle.verdict.specs.Below.{Low, OwnLows, Lows, WorstBelow, Least, Range};
-use super::marks::none_above;
+ghost use Rattle.table.specs.steps.Order.{BottomUp};
+ghost use Rattle.policy.specs.Marks.{Policy};
+ghost use Rattle.verdict.specs.Below.{ForbiddenBelow};
+ghost use Rattle.verdict.specs.steps.Lows.{ForbiddenOwn, Low, Range, Least, Lows, Kept, FoundBelow};
+use policy::marks::none_above;
 use table::Found;
 use table::privilege::privileges_at;
 use table::rule::children;
@@ -35,7 +36,7 @@ fn forbidden_from(marks: &[u8], from: usize, until: usize) -> u16
 // Writes for each type the lowest forbidden privilege of its own, or 65,535.
 fn own_lows(words: &[u16], marks: &[u8], low: &mut [u16; 256])
     requires { ⌜ Policy (now words) (now marks) × (length (now low) ≡ 256) ⌝ }
-    ensures { λ _. ⌜ OwnLows (now (words .entry)) (now (marks .entry)) (now (low .exit)) ⌝ }
+    ensures { λ _. ⌜ Lows (now (words .entry)) (ForbiddenOwn (now (words .entry)) (now (marks .entry))) (now (low .entry)) (now (low .exit)) ⌝ }
 {
     let e = types(words);
     let mut first = 0;
@@ -68,7 +69,7 @@ fn least_of(kids: &[u16], low: &[u16; 256], own: u16) -> u16
 // Writes for each type the lowest forbidden privilege below it, or 65,535. The order holds each type after its children.
 pub fn forbidden_lows(words: &[u16], marks: &[u8], order: &[u8; 256], low: &mut [u16; 256])
     requires { ⌜ Policy (now words) (now marks) × BottomUp (now words) (now order) × (length (now low) ≡ 256) ⌝ }
-    ensures { λ _. ⌜ Lows (now (words .entry)) (now (marks .entry)) (now (low .exit)) ⌝ }
+    ensures { λ _. ⌜ Lows (now (words .entry)) (ForbiddenBelow (now (words .entry)) (now (marks .entry))) (now (low .entry)) (now (low .exit)) ⌝ }
 {
     let e = types(words);
     own_lows(words, marks, low);
@@ -81,14 +82,14 @@ pub fn forbidden_lows(words: &[u16], marks: &[u8], order: &[u8; 256], low: &mut 
     }
 }
 
-// What is forbidden below type y of a policy: the lowest privilege, or nothing.
-pub fn forbidden_below(words: &[u16], marks: &[u8], low: &[u16; 256], y: usize) -> Found
-    requires { ⌜ Policy (now words) (now marks) × Lows (now words) (now marks) (now low) × (y < types (now words)) ⌝ }
-    ensures { λ r. ⌜ WorstBelow (now (words .entry)) (now (marks .entry)) y r ⌝ }
+// What is kept for type y: a privilege that is forbidden below it, or nothing.
+pub fn forbidden_below(low: &[u16; 256], y: usize) -> Found
+    requires { ⌜ y < 256 ⌝ }
+    ensures { λ r. ⌜ FoundBelow (Kept (now (low .entry))) y r ⌝ }
 {
     let lowest = low[y];
-    if lowest == 65535 {
-        return Found::Nothing;
+    if lowest < 65535 {
+        return Found::At(lowest as usize);
     }
-    Found::At(lowest as usize)
+    Found::Nothing
 }

@@ -1,25 +1,28 @@
-// The first breach of a policy, type by type. Contracts cite specs/Breaches, and specs/Visits for the parts.
+// The first breach of a policy, type by type, by the numbers that are kept for what is forbidden below each type: they may be any. Contracts
+// cite specs/Breaches, and specs/steps/Visits and specs/steps/Lows for the parts.
 ghost use mathlib.Core.Path.{_≡_};
 ghost use Prim.Native.Nat.{_<_};
 ghost use Rattle.table.specs.Words.{types};
 ghost use Rattle.table.specs.Rule.{IsChoice, IsStar, countOf};
-ghost use Rattle.table.specs.Privilege.{firstPrivilege, NumberedAs};
-ghost use Rattle.table.specs.Lowest.{Tells};
-ghost use Rattle.table.specs.Order.{BottomUp};
-ghost use Rattle.verdict.specs.Marks.{Allowed, Policy};
-ghost use Rattle.verdict.specs.Below.{Lows};
-ghost use Rattle.verdict.specs.Reached.{Reached, Square};
-ghost use Rattle.verdict.specs.Squares.{ForbiddenIn, Small};
-ghost use Rattle.verdict.specs.Breaches.{noBreach, BreachAt, Verdict};
-ghost use Rattle.verdict.specs.Visits.{Visited, Broken, Unshared, FirstPair, CycleAt};
+ghost use Rattle.table.specs.Privilege.{firstPrivilege};
+ghost use Rattle.table.specs.steps.Numbering.{NumberedAs};
+ghost use Rattle.table.specs.steps.Found.{Tells};
+ghost use Rattle.table.specs.steps.Order.{BottomUp};
+ghost use Rattle.policy.specs.Marks.{Allowed, Policy};
+ghost use Rattle.policy.specs.Reached.{Reached};
+ghost use Rattle.policy.specs.steps.Squares.{Square, ForbiddenIn, Small};
+ghost use Rattle.verdict.specs.Breaches.{noBreach, BreachBy, Verdict};
+ghost use Rattle.verdict.specs.steps.Lows.{Kept};
+ghost use Rattle.verdict.specs.steps.Visits.{Visited, Broken, FirstPair, Searched, BreachAt, CycleAt};
 use super::Breach;
 use super::Condition;
 use super::below::forbidden_below;
 use super::below::forbidden_lows;
-use super::marks::mark_at;
-use super::reach::leads;
-use super::reach::reached_by;
-use super::reach::read_rows;
+use policy::marks::mark_at;
+use policy::reach::reached_by;
+use policy::rows::first_shared;
+use policy::rows::leads;
+use policy::rows::read_rows;
 use table::Found;
 use table::privilege::Numbering;
 use table::privilege::deletion;
@@ -30,7 +33,6 @@ use table::privilege::replacement;
 use table::rule::Rule;
 use table::rule::children;
 use table::rule::rule_at;
-use table::words::lesser;
 use table::words::types;
 use table::words::word_at;
 
@@ -53,7 +55,7 @@ pub fn no_breach() -> Breach
     }
 }
 
-// Does the square lead from i to another position j, by which i must not be replaced?
+// Does the square lead from i to j, by which i must not be replaced?
 fn is_broken(
     marks: &[u8],
     n: Numbering,
@@ -71,15 +73,8 @@ fn is_broken(
     leads(forbidden, i, j)
 }
 
-// Where a search for a bit that two rows share begins: at the lowest such bit, or behind the last position if they share none.
-fn first_column(row: u16, other: u16, count: usize) -> usize
-    ensures { λ r. ⌜ Unshared row other count r ⌝ }
-{
-    lesser(u16::trailing_zeros(row & other) as usize, count)
-}
-
 // The first such pair: the lowest i, then the lowest j.
-pub fn first_broken(marks: &[u8], n: Numbering, square: &[u16; 16], forbidden: &[u16; 16]) -> Pair
+fn first_broken(marks: &[u8], n: Numbering, square: &[u16; 16], forbidden: &[u16; 16]) -> Pair
     requires { ⌜ Small n × Square (n .count) (ForbiddenIn (now marks) n) (now forbidden) ⌝ }
     ensures { λ r. ⌜ FirstPair (Broken (now (marks .entry)) n (now (square .entry))) (n .count) r ⌝ }
 {
@@ -87,7 +82,7 @@ pub fn first_broken(marks: &[u8], n: Numbering, square: &[u16; 16], forbidden: &
     let mut found = Pair::Nothing;
     let mut i = 0;
     'search: while i < count {
-        let mut j = first_column(square[i], forbidden[i], count);
+        let mut j = first_shared(square, forbidden, i, count);
         while j < count {
             if is_broken(marks, n, square, forbidden, i, j) {
                 found = Pair::At(i, j);
@@ -101,7 +96,7 @@ pub fn first_broken(marks: &[u8], n: Numbering, square: &[u16; 16], forbidden: &
 }
 
 // The first breach at the star x.
-fn star_breach(
+pub fn star_breach(
     words: &[u16],
     marks: &[u8],
     low: &[u16; 256],
@@ -109,8 +104,8 @@ fn star_breach(
     kids: &[u16],
     n: Numbering,
 ) -> Breach
-    requires { ⌜ Visited (now words) (now marks) (now low) x (now kids) × NumberedAs (now words) x n × IsStar (now words) x ⌝ }
-    ensures { λ r. ⌜ BreachAt (now (words .entry)) (now (marks .entry)) x r ⌝ }
+    requires { ⌜ Visited (now words) (now marks) x (now kids) × NumberedAs (now words) x n × IsStar (now words) x ⌝ }
+    ensures { λ r. ⌜ Searched (BreachAt (now (words .entry)) (now (marks .entry)) (Kept (now (low .entry))) x) r ⌝ }
 {
     if mark_at(marks, insertion(n)) != 1 {
         return no_breach();
@@ -118,7 +113,7 @@ fn star_breach(
     if mark_at(marks, deletion(n)) != 1 {
         return no_breach();
     }
-    let found = forbidden_below(words, marks, low, word_at(kids, 0));
+    let found = forbidden_below(low, word_at(kids, 0));
     if let Found::At(privilege) = found {
         return Breach {
             condition: Condition::InsertDelete,
@@ -140,13 +135,13 @@ fn cycle_breach(
     kids: &[u16],
     square: &[u16; 16],
 ) -> Breach
-    requires { ⌜ Visited (now words) (now marks) (now low) x (now kids) × IsChoice (now words) x × Square (countOf (now words) x) (Reached (now words) (Allowed (now marks)) x) (now square) ⌝ }
-    ensures { λ r. ⌜ CycleAt (now (words .entry)) (now (marks .entry)) x r ⌝ }
+    requires { ⌜ Visited (now words) (now marks) x (now kids) × IsChoice (now words) x × Square (countOf (now words) x) (Reached (now words) (Allowed (now marks)) x) (now square) ⌝ }
+    ensures { λ r. ⌜ Searched (CycleAt (now (words .entry)) (now (marks .entry)) (Kept (now (low .entry))) x) r ⌝ }
 {
     let mut i = 0;
     while i < kids.len() {
         if leads(square, i, i) {
-            let found = forbidden_below(words, marks, low, word_at(kids, i));
+            let found = forbidden_below(low, word_at(kids, i));
             if let Found::At(privilege) = found {
                 return Breach {
                     condition: Condition::Cycle,
@@ -162,23 +157,21 @@ fn cycle_breach(
     no_breach()
 }
 
-// The first breach at the choice x: a chain before a cycle.
-fn choice_breach(
+// The first breach at the choice x, whose squares tell what is reached and what is forbidden: a chain before a cycle.
+pub fn breach_in(
     words: &[u16],
     marks: &[u8],
     low: &[u16; 256],
     x: usize,
     kids: &[u16],
     n: Numbering,
+    square: &[u16; 16],
+    forbidden: &[u16; 16],
 ) -> Breach
-    requires { ⌜ Visited (now words) (now marks) (now low) x (now kids) × NumberedAs (now words) x n × IsChoice (now words) x ⌝ }
-    ensures { λ r. ⌜ BreachAt (now (words .entry)) (now (marks .entry)) x r ⌝ }
+    requires { ⌜ Visited (now words) (now marks) x (now kids) × NumberedAs (now words) x n × IsChoice (now words) x × Square (countOf (now words) x) (Reached (now words) (Allowed (now marks)) x) (now square) × Square (n .count) (ForbiddenIn (now marks) n) (now forbidden) ⌝ }
+    ensures { λ r. ⌜ Searched (BreachAt (now (words .entry)) (now (marks .entry)) (Kept (now (low .entry))) x) r ⌝ }
 {
-    let mut allowed = [0u16; 16];
-    let mut forbidden = [0u16; 16];
-    read_rows(kids, marks, n, &mut allowed, &mut forbidden);
-    let square = reached_by(words, marks, x, n, allowed);
-    let chain = first_broken(marks, n, &square, &forbidden);
+    let chain = first_broken(marks, n, square, forbidden);
     if let Pair::At(i, j) = chain {
         return Breach {
             condition: Condition::Chain,
@@ -188,13 +181,32 @@ fn choice_breach(
             privilege: replacement(n, i, j),
         };
     }
-    cycle_breach(words, marks, low, x, kids, &square)
+    cycle_breach(words, marks, low, x, kids, square)
+}
+
+// The first breach at the choice x.
+fn choice_breach(
+    words: &[u16],
+    marks: &[u8],
+    low: &[u16; 256],
+    x: usize,
+    kids: &[u16],
+    n: Numbering,
+) -> Breach
+    requires { ⌜ Visited (now words) (now marks) x (now kids) × NumberedAs (now words) x n × IsChoice (now words) x ⌝ }
+    ensures { λ r. ⌜ Searched (BreachAt (now (words .entry)) (now (marks .entry)) (Kept (now (low .entry))) x) r ⌝ }
+{
+    let mut allowed = [0u16; 16];
+    let mut forbidden = [0u16; 16];
+    read_rows(kids, marks, n, &mut allowed, &mut forbidden);
+    let square = reached_by(words, marks, x, n, allowed);
+    breach_in(words, marks, low, x, kids, n, &square, &forbidden)
 }
 
 // The first breach at type x, whose first privilege is given.
 fn breach_at(words: &[u16], marks: &[u8], low: &[u16; 256], x: usize, first: usize) -> Breach
-    requires { ⌜ Policy (now words) (now marks) × Lows (now words) (now marks) (now low) × (x < types (now words)) × (first ≡ firstPrivilege (now words) x) ⌝ }
-    ensures { λ r. ⌜ BreachAt (now (words .entry)) (now (marks .entry)) x r ⌝ }
+    requires { ⌜ Policy (now words) (now marks) × (x < types (now words)) × (first ≡ firstPrivilege (now words) x) ⌝ }
+    ensures { λ r. ⌜ Searched (BreachAt (now (words .entry)) (now (marks .entry)) (Kept (now (low .entry))) x) r ⌝ }
 {
     let rule = rule_at(words, x);
     match rule {
@@ -224,18 +236,16 @@ fn breach_at(words: &[u16], marks: &[u8], low: &[u16; 256], x: usize, first: usi
     }
 }
 
-// The first breach of a policy, or five zeros where it is clean. The order holds each type after its children.
-pub fn first_breach(words: &[u16], marks: &[u8], order: &[u8; 256]) -> Breach
-    requires { ⌜ Policy (now words) (now marks) × BottomUp (now words) (now order) ⌝ }
-    ensures { λ r. ⌜ Verdict (now (words .entry)) (now (marks .entry)) r ⌝ }
+// The first breach of a policy by the kept numbers, or five zeros where it has none.
+fn breach_by(words: &[u16], marks: &[u8], low: &[u16; 256]) -> Breach
+    requires { ⌜ Policy (now words) (now marks) ⌝ }
+    ensures { λ r. ⌜ Searched (BreachBy (now (words .entry)) (now (marks .entry)) (Kept (now (low .entry)))) r ⌝ }
 {
-    let mut low = [65535u16; 256];
-    forbidden_lows(words, marks, order, &mut low);
     let e = types(words);
     let mut first = 0;
     let mut x = 0;
     while x < e {
-        let breach = breach_at(words, marks, &low, x, first);
+        let breach = breach_at(words, marks, low, x, first);
         let condition = breach.condition;
         if let Condition::None = condition {
             first += privileges_at(words, x);
@@ -245,4 +255,14 @@ pub fn first_breach(words: &[u16], marks: &[u8], order: &[u8; 256]) -> Breach
         }
     }
     no_breach()
+}
+
+// The first breach of a policy, or five zeros where it is clean. The order holds each type after its children.
+pub fn first_breach(words: &[u16], marks: &[u8], order: &[u8; 256]) -> Breach
+    requires { ⌜ Policy (now words) (now marks) × BottomUp (now words) (now order) ⌝ }
+    ensures { λ r. ⌜ Verdict (now (words .entry)) (now (marks .entry)) r ⌝ }
+{
+    let mut low = [0u16; 256];
+    forbidden_lows(words, marks, order, &mut low);
+    breach_by(words, marks, &low)
 }

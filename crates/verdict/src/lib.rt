@@ -2,13 +2,12 @@
 // Contracts cite specs/Answers for what the call answers, and specs/Conditions and specs/Breaches for what a verdict is.
 ghost use mathlib.Core.Path.{_≡_};
 ghost use Rattle.verdict.specs.Breaches.{conditionNumber};
-ghost use Rattle.verdict.specs.Answers.{refusal, JudgeAnswer};
+ghost use Rattle.verdict.specs.Answers.{refusal, done, JudgeAnswer};
 
 pub mod below;
 pub mod breaches;
-pub mod marks;
-pub mod packed;
-pub mod reach;
+
+use policy::marks::check_policy;
 
 // What a breach breaks.
 pub enum Condition {
@@ -60,12 +59,21 @@ pub fn refused(number: u8, place: usize) -> Answer
     }
 }
 
+// A done answer with its count.
+pub fn done_with(count: usize) -> Answer
+    ensures { λ r. ⌜ r ≡ done count ⌝ }
+{
+    let mut answer = refused(0, 0);
+    answer.count = count;
+    answer
+}
+
 // Judges a policy, whatever is lent: refuses with 1 to 11 or 19, or answers 0 with the first breach, five zeros where there is none.
 pub fn judge_policy(words: &[u16], marks: &[u8]) -> Answer
     ensures { λ r. ⌜ JudgeAnswer (now (words .entry)) (now (marks .entry)) r ⌝ }
 {
     let mut order = [0u8; 256];
-    let checked = marks::check_policy(words, marks, &mut order);
+    let checked = check_policy(words, marks, &mut order);
     if checked.number != 0 {
         return refused(checked.number, checked.place);
     }

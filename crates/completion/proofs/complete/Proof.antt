@@ -5,10 +5,10 @@ use native.Mathlib.Omega.{arith}
 use borrow.Author.Needs.{needs}
 use denote.Ref.{now}
 use lib.ListN.{length}
-use Rattle.table.specs.Order.{BottomUp}
+use Rattle.table.specs.steps.Order.{BottomUp}
 use Rattle.table.specs.Privilege.{privileges}
-use Rattle.verdict.specs.Marks.{Policy}
-use Rattle.verdict.proofs.Policies.{policy-refused, policy-fits}
+use Rattle.policy.specs.Marks.{Policy}
+use Rattle.policy.proofs.Policies.{policy-refused, policy-fits}
 use Rattle.verdict.proofs.Firsts.{verdict-clean, verdict-broken, no-tag}
 use Rattle.completion.specs.Answers.{refused, short, none}
 use Rattle.completion.proofs.Completing.{broken-none, filled-given}

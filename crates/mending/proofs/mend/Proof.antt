@@ -1,8 +1,8 @@
 -- What is no policy is refused, and so is too short a result; the front of the result holds the mend. Assumes nothing.
 use Rattle.mending.specs.Answers.{refused, short, mended}
-use Rattle.verdict.proofs.Policies.{policy-refused, policy-fits}
-use Rattle.verdict.specs.Marks.{Policy}
-use Rattle.table.specs.Order.{BottomUp}
+use Rattle.policy.proofs.Policies.{policy-refused, policy-fits}
+use Rattle.policy.specs.Marks.{Policy}
+use Rattle.table.specs.steps.Order.{BottomUp}
 use Rattle.table.specs.Privilege.{privileges}
 use lib.Seq.{length-take-le}
 use lib.ListN.{drop}

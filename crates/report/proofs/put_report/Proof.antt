@@ -9,7 +9,7 @@ use native.Mathlib.Omega.{arith}
 use lib.ListN.{length, take, drop, length-append}
 use Rattle.table.specs.Privilege.{privileges}
 use Rattle.table.specs.Check.{Accepted, TableAnswer}
-use Rattle.verdict.proofs.Policies.{table-accepted}
+use Rattle.policy.proofs.Policies.{table-accepted}
 use Rattle.lines.specs.Text.{line}
 use Rattle.lines.proofs.Texts.{puts-as, puts-then}
 use Rattle.lines.proofs.Spaced.{line-length}

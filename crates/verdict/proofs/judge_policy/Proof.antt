@@ -1,5 +1,5 @@
 -- What is no policy is refused, and a policy gets its verdict. Assumes nothing.
-use Rattle.verdict.proofs.Policies.{policy-refused, policy-fits}
+use Rattle.policy.proofs.Policies.{policy-refused, policy-fits}
 use Rattle.verdict.specs.Answers.{refused, judged}
 use mathlib.Core.Path.{refl}
 use borrow.Author.Needs.{needs}

@@ -7,7 +7,7 @@ use native.Mathlib.Omega.{arith}
 use borrow.Author.Needs.{needs}
 use denote.Ref.{now}
 use lib.ListN.{length, getD}
-use Rattle.verdict.specs.Reached.{marked}
+use Rattle.policy.specs.steps.Squares.{marked}
 use Rattle.completion.proofs.Openings.{OpenedSoFar, open-start, open-mark, open-pass, open-end}
 use Rattle.completion.proofs.open.open_cycles.Statement.{statement}
 use Rattle.completion.proofs.open.open_cycles.Tie as tie

@@ -3,9 +3,9 @@ use mathlib.Core.Path.{_≡_, sym, _∙_}
 use borrow.Author.Needs.{needs}
 use denote.Ref.{now}
 use lib.ListN.{getD}
-use Rattle.table.specs.Privilege.{insertIn, deleteIn}
+use Rattle.table.specs.steps.Numbering.{insertIn, deleteIn}
 use Rattle.table.proofs.Lowest.{tells-eq-as}
-use Rattle.completion.specs.Passes.{Both}
+use Rattle.completion.specs.steps.Passes.{Both}
 use Rattle.completion.proofs.pass.both_allowed.Statement.{statement}
 use Rattle.completion.proofs.pass.both_allowed.Tie as tie
 

@@ -37,7 +37,7 @@ module _ (c : tie.In-loop Inv-loop μ-loop) where
   type = begin .pre .1 .inside (c .before .loop .k - 1) place
 
   first-is : getD (c .before .before .before .first-privileges .last .1 .0) x 0 ≡ firstPrivilege (now (begin .args .words)) x
-  first-is = c .before .before .before .first-privileges .ensures x type
+  first-is = c .before .before .before .first-privileges .ensures .each x type
 
   first-low : firstPrivilege (now (begin .args .words)) x ≤ 4096
   first-low = omega (arith, first-within (now (begin .args .words)) x (omega (arith, type)), facts (begin .pre .0 .accepted) .privileges-few)

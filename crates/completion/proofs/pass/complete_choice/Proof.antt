@@ -1,7 +1,7 @@
 -- What is granted of a choice that is not opened is what is reached, which the square tells. Assumes nothing.
 use borrow.Author.Needs.{needs}
 use denote.Ref.{now}
-use Rattle.table.specs.Privilege.{NumberedAs}
+use Rattle.table.specs.steps.Numbering.{NumberedAs}
 use Rattle.completion.proofs.Passing.{choice-kids, choice-own, choice-room, visit-few, visit-small}
 use Rattle.completion.proofs.pass.complete_choice.Statement.{statement}
 use Rattle.completion.proofs.pass.complete_choice.Tie as tie

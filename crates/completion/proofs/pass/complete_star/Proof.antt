@@ -3,7 +3,7 @@ use mathlib.Core.Logic.{⊎-elim}
 use native.Mathlib.Omega.{arith}
 use borrow.Author.Needs.{needs}
 use denote.Ref.{now}
-use Rattle.table.specs.Privilege.{NumberedAs}
+use Rattle.table.specs.steps.Numbering.{NumberedAs}
 use Rattle.table.proofs.Facts.{has-record}
 use Rattle.table.proofs.Lowest.{told-yes, told-no}
 use Rattle.completion.proofs.Openings.{kids-none}

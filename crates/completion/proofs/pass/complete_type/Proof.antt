@@ -11,9 +11,9 @@ use Rattle.table.specs.declared.rule.Rule.{Rule}
 use Rattle.table.specs.declared.rule.Rule.the-variants.{Empty, Text, Sequence, Choice, Star}
 use Rattle.table.proofs.Facts.{facts, has-record}
 use Rattle.table.proofs.Lowest.{told-yes, told-no}
-use Rattle.verdict.specs.Marks.{Allowed}
-use Rattle.completion.specs.Opens.{Opened}
-use Rattle.completion.specs.Writing.{isOpen}
+use Rattle.policy.specs.Marks.{Allowed}
+use Rattle.completion.specs.steps.Opens.{Opened}
+use Rattle.completion.specs.steps.Writing.{isOpen}
 use Rattle.completion.proofs.Openings.{kids-none}
 use Rattle.completion.proofs.Passing.{plain-own, plain-passes, visit-end, visit-fits}
 use Rattle.completion.proofs.pass.complete_type.Statement.{statement}

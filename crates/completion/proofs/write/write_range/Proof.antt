@@ -6,9 +6,9 @@ use mathlib.Core.Bool.{true}
 use native.Mathlib.Omega.{arith}
 use borrow.Author.Needs.{needs}
 use lib.ListN.{length}
-use Rattle.verdict.specs.Marks.{Allowed}
-use Rattle.completion.specs.Writing.{allow, RangeWritten}
-use Rattle.completion.proofs.Writings.{decide-mark, range-start, range-more, range-end}
+use Rattle.policy.specs.Marks.{Allowed}
+use Rattle.policy.specs.steps.Writing.{allow, RangeWritten}
+use Rattle.policy.proofs.Writings.{decide-mark, range-start, range-more, range-end}
 use Rattle.completion.proofs.write.write_range.Statement.{statement}
 use Rattle.completion.proofs.write.write_range.Tie as tie
 

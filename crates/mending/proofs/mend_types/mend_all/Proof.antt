@@ -1,8 +1,9 @@
 -- The loop has mended the types passed, and followed the rule. Assumes nothing.
 use borrow.Author.Needs.{needs}
-use Rattle.mending.proofs.Staying.{Mending, lows-spoilt, mending-on, mending-done, mending-few}
-use Rattle.mending.specs.Taking.{start}
+use Rattle.mending.proofs.Staying.{Mending, mending-on, mending-done, mending-few}
+use Rattle.mending.specs.steps.Taking.{start}
 use Rattle.verdict.proofs.Firsts.{clean-start}
+use Rattle.verdict.proofs.Kept.{right-agree}
 use Rattle.table.proofs.Facts.{facts, has-record}
 use Rattle.table.proofs.Privileges.{first-start, first-next, first-within}
 use Rattle.table.specs.Privilege.{firstPrivilege}
@@ -38,7 +39,7 @@ types-requires c κs = search needs
 loop-holds : tie.Need-loop-holds Inv-loop μ-loop
 loop-holds c =
     let pol = c .before .before .before .before .before .before .pre .0 in
-    (search needs, sym (first-start _), record { follows = start; policy = pol; spoilt = lows-spoilt pol (c .before .forbidden-lows .last .1 .1 .1 .0) (c .before .forbidden-lows .ensures); clean = clean-start _ _ })
+    (search needs, sym (first-start _), record { follows = start; policy = pol; spoilt = right-agree (c .before .forbidden-lows .last .1 .1 .1 .0) pol (c .before .forbidden-lows .ensures .each); clean = clean-start _ _ _ })
 
 mend-type-requires : tie.Need-mend-type-requires Inv-loop μ-loop
 mend-type-requires c κs =

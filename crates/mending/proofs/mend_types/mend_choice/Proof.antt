@@ -4,10 +4,11 @@ use Prim.Native.Nat.{_<_}
 use mathlib.Core.Path.{refl}
 use denote.Ref.{now}
 use native.Mathlib.Omega.{arith}
-use Rattle.table.specs.Privilege.{privileges, replaceIn}
-use Rattle.verdict.specs.Squares.{StepIn, Read}
-use Rattle.verdict.proofs.SquareLaws.{kids-here, policy-readable}
-use Rattle.mending.specs.Taking.{TakenAt, start}
+use Rattle.table.specs.Privilege.{privileges}
+use Rattle.table.specs.steps.Numbering.{replaceIn}
+use Rattle.policy.specs.steps.Squares.{StepIn, Read}
+use Rattle.policy.proofs.SquareLaws.{kids-here, policy-readable}
+use Rattle.mending.specs.steps.Taking.{TakenAt, start}
 use Rattle.mending.proofs.Counting.{allowedIn}
 use Rattle.mending.proofs.Staying.{Mending, next-within, next-less, mending-take, mending-few}
 use Rattle.mending.proofs.Rows.{read-taken}
@@ -85,49 +86,25 @@ replacement-requires c κs =
 slice-write-m : tie.Need-slice-write-m Inv-loop μ-loop
 slice-write-m c = rw (c .replacement .ensures) (next-within (c .before .before .before .before .before .before .before .before .before .before .before .loop .inv .0) (told (c .before .before) .1))
 
-mul-toggled : tie.Need-mul-toggled Inv-loop μ-loop
-mul-toggled c = let few = from-few (c .before .before) in record { fits = omega arith }
+toggle-requires : tie.Need-toggle-requires Inv-loop μ-loop
+toggle-requires c κs = (c .before .before .before .before .before .before .before .before .before .before .before .before .loop .inv .1 .steps .size, from-few (c .before .before .before), to-few (c .before .before .before))
 
-array-read-toggled : tie.Need-array-read-toggled Inv-loop μ-loop
-array-read-toggled c = from-few (c .before .before)
-
-toggled-requires : tie.Need-toggled-requires Inv-loop μ-loop
-toggled-requires c κs = to-few (c .before .before)
-
-mul-allowed : tie.Need-mul-allowed Inv-loop μ-loop
-mul-allowed c = let few = from-few (c .before .before .before) in record { fits = omega arith }
-
-array-write-allowed : tie.Need-array-write-allowed Inv-loop μ-loop
-array-write-allowed c = from-few (c .before .before .before)
-
-mul-toggled-2 : tie.Need-mul-toggled-2 Inv-loop μ-loop
-mul-toggled-2 c = let few = from-few (c .before .before .before) in record { fits = omega arith }
-
-array-read-toggled-2 : tie.Need-array-read-toggled-2 Inv-loop μ-loop
-array-read-toggled-2 c = from-few (c .before .before .before)
-
-toggled-requires-2 : tie.Need-toggled-requires-2 Inv-loop μ-loop
-toggled-requires-2 c κs = to-few (c .before .before .before)
-
-mul-forbidden : tie.Need-mul-forbidden Inv-loop μ-loop
-mul-forbidden c = let few = from-few (c .before .before .before .before) in record { fits = omega arith }
-
-array-write-forbidden : tie.Need-array-write-forbidden Inv-loop μ-loop
-array-write-forbidden c = from-few (c .before .before .before .before)
+toggle-requires-2 : tie.Need-toggle-requires-2 Inv-loop μ-loop
+toggle-requires-2 c κs = (c .before .before .before .before .before .before .before .before .before .before .before .before .before .before .loop .inv .1 .bans .size, omega (arith, from-few (c .before .before .before .before .before)), to-few (c .before .before .before .before .before))
 
 add-count : tie.Need-add-count Inv-loop μ-loop
-add-count c = omega (arith, mending-few (c .before .before .before .before .before .before .before .before .before .before .before .before .before .loop .inv .0))
+add-count c = omega (arith, mending-few (c .before .before .before .before .before .before .before .before .before .before .before .before .before .before .before .loop .inv .0))
 
 loop-less : tie.Need-loop-less Inv-loop μ-loop
-loop-less c = rw (c .before .before .replacement .ensures) (next-less (c .before .before .before .before .before .before .before .before .before .before .before .before .before .loop .inv .0) (told (c .before .before .before .before) .1))
+loop-less c = rw (c .before .before .before .before .replacement .ensures) (next-less (c .before .before .before .before .before .before .before .before .before .before .before .before .before .before .before .loop .inv .0) (told (c .before .before .before .before .before .before) .1))
 
 loop-again : tie.Need-loop-again Inv-loop μ-loop
 loop-again c =
-    let at = c .before .before .before .before .before .before .before .before .before .before .before .before .before in
-    let taken = told (c .before .before .before .before) in
-    rw (c .before .before .replacement .ensures) (
+    let at = c .before .before .before .before .before .before .before .before .before .before .before .before .before .before .before in
+    let taken = told (c .before .before .before .before .before .before) in
+    rw (c .before .before .before .before .replacement .ensures) (
       mending-take (at .loop .inv .0) (taken .1),
-      read-taken (taken .0) (next-within (at .loop .inv .0) (taken .1)) (from-few (c .before .before .before .before)) (at .loop .inv .1) (c .before .toggled .ensures) (c .toggled2 .ensures),
+      read-taken (taken .0) (next-within (at .loop .inv .0) (taken .1)) (at .loop .inv .1) (c .before .before .toggle .ensures) (c .toggle2 .ensures),
     )
 
 pub mend-choice-spec : {M : Type 1} → statement M
@@ -146,16 +123,8 @@ mend-choice-spec =
     returns
     replacement-requires
     slice-write-m
-    mul-toggled
-    array-read-toggled
-    toggled-requires
-    mul-allowed
-    array-write-allowed
-    mul-toggled-2
-    array-read-toggled-2
-    toggled-requires-2
-    mul-forbidden
-    array-write-forbidden
+    toggle-requires
+    toggle-requires-2
     add-count
     loop-less
     loop-again)

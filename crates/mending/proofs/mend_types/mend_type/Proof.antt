@@ -1,7 +1,6 @@
 -- By the cases of the rule. Assumes nothing.
-use Rattle.mending.proofs.Next.{clean-on}
-use Rattle.mending.specs.Taking.{start}
-use Rattle.verdict.proofs.Breached.{plain-none}
+use Rattle.mending.proofs.Next.{plain-next}
+use Rattle.mending.specs.steps.Taking.{start}
 use Rattle.table.proofs.Facts.{has-record, has-children}
 use Rattle.table.specs.declared.rule.Rule.{Rule}
 use Rattle.table.specs.Rule.{ruleAt, kindIn}
@@ -80,19 +79,19 @@ returns : tie.Need-returns
 returns c =
     let p = c .before .before .before .before .before .pre in
     let k = kind (c .before .before) (c .enum-told .given .1) in
-    record { follows = start; policy = p .0; spoilt = p .1; clean = clean-on (p .3) (plain-none _ _ _ (λ e. omega arith) (λ e. omega arith)) }
+    record { follows = start; policy = p .0; spoilt = p .1; clean = plain-next (p .3) (λ e. omega arith) (λ e. omega arith) }
 
 returns-2 : tie.Need-returns-2
 returns-2 c =
     let p = c .before .before .before .before .before .pre in
     let k = kind (c .before .before) (c .enum-told2 .given .1) in
-    record { follows = start; policy = p .0; spoilt = p .1; clean = clean-on (p .3) (plain-none _ _ _ (λ e. omega arith) (λ e. omega arith)) }
+    record { follows = start; policy = p .0; spoilt = p .1; clean = plain-next (p .3) (λ e. omega arith) (λ e. omega arith) }
 
 returns-3 : tie.Need-returns-3
 returns-3 c =
     let p = c .before .before .before .before .before .pre in
     let k = kind (c .before .before) (c .enum-told3 .given .1) in
-    record { follows = start; policy = p .0; spoilt = p .1; clean = clean-on (p .3) (plain-none _ _ _ (λ e. omega arith) (λ e. omega arith)) }
+    record { follows = start; policy = p .0; spoilt = p .1; clean = plain-next (p .3) (λ e. omega arith) (λ e. omega arith) }
 
 same-length : tie.Need-same-length
 same-length c = search needs

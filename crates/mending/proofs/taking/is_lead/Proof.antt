@@ -6,9 +6,9 @@ use mathlib.Core.Bool.{true≢false}
 use mathlib.Core.Logic.{inl, inr}
 use mathlib.Core.Path.{sym, _∙_}
 use Rattle.table.proofs.Lowest.{told-yes, tells-by}
-use Rattle.verdict.specs.Reached.{marked}
-use Rattle.verdict.specs.Squares.{StepIn}
-use Rattle.verdict.proofs.SquareLaws.{told-marked}
+use Rattle.policy.specs.steps.Squares.{marked}
+use Rattle.policy.specs.steps.Squares.{StepIn}
+use Rattle.policy.proofs.SquareLaws.{told-marked}
 use Rattle.mending.proofs.taking.is_lead.Statement.{statement}
 use Rattle.mending.proofs.taking.is_lead.Tie as tie
 

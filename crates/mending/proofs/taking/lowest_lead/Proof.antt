@@ -1,7 +1,7 @@
 -- The loop has passed no lower lead, and there is one. Assumes nothing.
 use Rattle.table.proofs.Lists.{le-or-lt}
 use Rattle.table.proofs.Lowest.{told-yes, told-no}
-use Rattle.mending.specs.Taking.{LeadsIn}
+use Rattle.mending.specs.steps.Taking.{LeadsIn}
 use borrow.Author.Tests.{not-true, not-false}
 use borrow.Author.Count.{below-none, below-more}
 use mathlib.Core.Logic.{inl, inr}

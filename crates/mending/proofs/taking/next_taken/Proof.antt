@@ -1,97 +1,86 @@
--- The first chain, or else the first cycle, is the first breach; the lowest that leads is taken. Assumes nothing.
-use Rattle.mending.proofs.Next.{some-lead, chain-next, cycle-next, choice-none}
-use Rattle.verdict.specs.Reached.{marked}
-use Rattle.table.proofs.Lowest.{told-yes}
-use Rattle.table.proofs.Facts.{facts}
-use Rattle.table.specs.Rule.{countOf}
-use lib.ListN.{length}
-use mathlib.Core.Path.{_≡_, ap, _∙_}
-use denote.Ref.{now}
-use native.Mathlib.Omega.{arith}
+-- The lowest that leads is taken at the first spot. Assumes nothing.
 use borrow.Author.Needs.{needs}
+use native.Mathlib.Omega.{arith}
+use Prim.Native.Nat.{ℕ}
+use mathlib.Core.Path.{_≡_, sym, ap, _∙_}
+use mathlib.Core.Logic.{_≢_}
+use Rattle.policy.proofs.Reaches.{reached-to}
+use Rattle.verdict.specs.Breaches.{conditionNumber}
+use Rattle.verdict.specs.declared.Condition.{Condition}
+use Rattle.verdict.specs.declared.Condition.the-variants.{None, Cycle}
+use Rattle.verdict.proofs.Firsts.{no-tag}
+use Rattle.mending.proofs.Next.{some-lead, lowest-out, next-none, choice-reached, cycle-same, choice-next}
 use Rattle.mending.proofs.taking.next_taken.Statement.{statement}
 use Rattle.mending.proofs.taking.next_taken.Tie as tie
 
--- the children are all there
-all-here : (c : tie.Start) → length (now (c .args .kids)) ≡ countOf (now (c .args .words)) (c .args .x)
-all-here c = ap length (c .pre .0 .kids-are) ∙ facts (c .pre .0 .policy .accepted) .children-here (c .args .x) (c .pre .0 .type)
-
-first-broken-requires : tie.Need-first-broken-requires
-first-broken-requires c κs = search needs
-
-enum-known-chain : tie.Need-enum-known-chain
-enum-known-chain c = search needs
-
-lowest-lead-requires : tie.Need-lowest-lead-requires
-lowest-lead-requires c κs =
-    let found = c .before .before .before in
-    let start = found .before .before .before .before in
-    let n = start .pre .0 .numbered in
-    let f = rw (c .before .chain .given .1) at (found .first-broken .ensures) in
-    let tells = start .pre .2 in
-    let r = told-yes (marked (now (start .args .square)) _ _) (tells .tells _ _ (omega (arith, n .count, f .from)) (omega (arith, n .count, f .to))) (f .holds .leads) in
-    (record { low = n .low; few = n .few }, omega (arith, f .to, n .few), some-lead n (start .pre .1) tells r, start .pre .3 .steps)
-
-returns : tie.Need-returns
-returns c =
-    let found = c .before .before .before .before in
-    let start = found .before .before .before .before in
-    (c .lowest-lead .ensures .leads .step, chain-next (start .pre .0) (start .pre .1) (start .pre .2) (rw (c .before .before .chain .given .1) at (found .first-broken .ensures)) (c .lowest-lead .ensures))
+breach-in-requires : tie.Need-breach-in-requires
+breach-in-requires c κs =
+    let p = c .before .before .before .pre in
+    let v = p .0 in
+    (record { policy = v .policy; type = v .type; kids-are = v .kids-are }, v .numbered, p .1, p .2, p .3 .bans)
 
 enum-told : tie.Need-enum-told
 enum-told c = search needs
 
-first-cycle-requires : tie.Need-first-cycle-requires
-first-cycle-requires c κs =
-    let start = c .before .before .before .before .before .before in
-    let v = start .pre .0 in
-    let f = facts (v .policy .accepted) in
-    (omega (arith, all-here start, f .children-few (start .args .x) (v .type)), λ i l. rw (v .kids-are) (omega (arith, f .few, f .child-inside (start .args .x) i (v .type) (omega (arith, all-here start)))))
-
-enum-known-cycle : tie.Need-enum-known-cycle
-enum-known-cycle c = search needs
-
-lowest-lead-requires-2 : tie.Need-lowest-lead-requires-2
-lowest-lead-requires-2 c κs =
-    let found = c .before .before .before in
-    let start = found .before .before .before .before .before .before .before in
-    let v = start .pre .0 in
-    let n = v .numbered in
-    let f = rw (c .before .cycle .given .1) at (found .first-cycle .ensures) in
-    let tells = start .pre .2 in
-    let r = told-yes (marked (now (start .args .square)) _ _) (tells .tells _ _ (omega (arith, all-here start, f .0)) (omega (arith, all-here start, f .0))) (f .1 .circle) in
-    (record { low = n .low; few = n .few }, omega (arith, all-here start, f .0, n .count, n .few), some-lead n (start .pre .1) tells r, start .pre .3 .steps)
-
-returns-2 : tie.Need-returns-2
-returns-2 c =
-    let found = c .before .before .before .before in
-    let start = found .before .before .before .before .before .before .before in
-    let free = rw (found .before .enum-told .given .1) at (found .before .before .before .first-broken .ensures) in
-    let f = rw (c .before .before .cycle .given .1) at (found .first-cycle .ensures) in
-    (c .lowest-lead2 .ensures .leads .step, cycle-next (start .pre .0) (start .pre .1) (start .pre .2) free (omega (arith, all-here start, f .0)) (f .1) (f .2) (c .lowest-lead2 .ensures))
+returns : tie.Need-returns
+returns c =
+    let found = c .before .before in
+    next-none (found .before .before .before .before .pre .0) (found .breach-in .ensures) (c .enum-told .given .1)
 
 enum-told-2 : tie.Need-enum-told-2
 enum-told-2 c = search needs
 
+-- a cycle is a breach
+cycle-is : {k : Condition} → k ≡ Cycle → k ≢ None
+cycle-is e f = let z : _≡_ {A = ℕ} 3 0 = ap conditionNumber (sym e ∙ f) in omega arith
+
+lowest-lead-requires : tie.Need-lowest-lead-requires
+lowest-lead-requires c κs =
+    let found = c .before .before .before in
+    let p = found .before .before .before .before .pre in
+    let n = p .0 .numbered in
+    let k = c .enum-told2 .given .1 in
+    let r = rw (cycle-same (p .0) (found .breach-in .ensures) (cycle-is k) (p .1) k) at (choice-reached (p .0) (found .breach-in .ensures) (cycle-is k) (p .1)) in
+    (record { low = n .low; few = n .few }, omega (arith, reached-to r, n .count, n .few), some-lead n (p .1) (p .2) r, p .3 .steps)
+
+returns-2 : tie.Need-returns-2
+returns-2 c =
+    let found = c .before .before .before .before in
+    let p = found .before .before .before .before .pre in
+    let k = c .before .enum-told2 .given .1 in
+    let same = cycle-same (p .0) (found .breach-in .ensures) (cycle-is k) (p .1) k in
+    let r = choice-reached (p .0) (found .breach-in .ensures) (cycle-is k) (p .1) in (
+      c .lowest-lead .ensures .leads .step,
+      choice-next (p .0) (found .breach-in .ensures) (cycle-is k) (p .1) (lowest-out (p .0 .numbered) (p .1) (p .2) (reached-to r) (rw same (c .lowest-lead .ensures))),
+    )
+
+lowest-lead-requires-2 : tie.Need-lowest-lead-requires-2
+lowest-lead-requires-2 c κs =
+    let found = c .before .before in
+    let p = found .before .before .before .before .pre in
+    let n = p .0 .numbered in
+    let r = choice-reached (p .0) (found .breach-in .ensures) (λ e. no-tag (rw e at (c .before .match .keys2))) (p .1) in
+    (record { low = n .low; few = n .few }, omega (arith, reached-to r, n .count, n .few), some-lead n (p .1) (p .2) r, p .3 .steps)
+
 returns-3 : tie.Need-returns-3
 returns-3 c =
-    let found = c .before .before in
-    let start = found .before .before .before .before .before .before .before in
-    let free = rw (found .before .enum-told .given .1) at (found .before .before .before .first-broken .ensures) in
-    choice-none (start .pre .0) (start .pre .1) (start .pre .2) free (rw (c .enum-told2 .given .1) at (found .first-cycle .ensures))
+    let found = c .before .before .before in
+    let p = found .before .before .before .before .pre in
+    let d : found .breach-in .result .condition ≢ None = λ e. no-tag (rw e at (c .before .before .match .keys2)) in
+    let r = choice-reached (p .0) (found .breach-in .ensures) d (p .1) in (
+      c .lowest-lead2 .ensures .leads .step,
+      choice-next (p .0) (found .breach-in .ensures) d (p .1) (lowest-out (p .0 .numbered) (p .1) (p .2) (reached-to r) (c .lowest-lead2 .ensures)),
+    )
 
 pub next-taken-spec : {M : Type 1} → statement M
 next-taken-spec =
     tie.close
     (tie.spec
-    first-broken-requires
-    enum-known-chain
-    lowest-lead-requires
-    returns
+    breach-in-requires
     enum-told
-    first-cycle-requires
-    enum-known-cycle
-    lowest-lead-requires-2
-    returns-2
+    returns
     enum-told-2
+    lowest-lead-requires
+    returns-2
+    lowest-lead-requires-2
     returns-3)

@@ -9,7 +9,7 @@ use mathlib.Core.Bool.{false, true≢false}
 use mathlib.Core.List.{List}
 use lib.ListN.{length}
 use Prim.Native.Nat.{ℕ}
-use Rattle.table.specs.Accepting.{Accepting}
+use Rattle.table.specs.steps.Accepting.{Accepting}
 use borrow.Author.Needs.{needs}
 use Rattle.table.proofs.accept.is_accepted.Statement.{statement}
 use Rattle.table.proofs.accept.is_accepted.Tie as tie

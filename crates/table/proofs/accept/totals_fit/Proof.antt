@@ -2,7 +2,7 @@
 use denote.Ref.{now}
 use mathlib.Core.Path.{sym, _∙_}
 use borrow.Author.Needs.{needs}
-use Rattle.table.specs.Accept.{Totals}
+use Rattle.table.specs.steps.Accept.{Totals}
 use Rattle.table.proofs.Lowest.{tells-eq-as}
 use Rattle.table.proofs.accept.totals_fit.Statement.{statement}
 use Rattle.table.proofs.accept.totals_fit.Tie as tie

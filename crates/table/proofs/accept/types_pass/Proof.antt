@@ -1,7 +1,8 @@
 -- The loop keeps what the types passed are, and the sums over them. Assumes nothing.
 use borrow.Author.Needs.{needs}
 use borrow.Author.Tests.{not-false}
-use Rattle.table.specs.Words.{Widened, firstAt}
+use Rattle.table.specs.Words.{firstAt}
+use Rattle.table.specs.steps.Reading.{Widened}
 use Rattle.table.proofs.Lowest.{told-yes}
 use Rattle.table.proofs.Rules.{count-small}
 use Rattle.table.proofs.Stamps.{TypesSoFar, Read, read-children, read-few, read-privileges, types-start, types-leaf, types-more, types-all}

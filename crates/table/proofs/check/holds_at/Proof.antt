@@ -2,10 +2,10 @@
 use Rattle.table.proofs.Lowest.{tells-le, tells-not}
 use Rattle.table.proofs.Children.{tiled, childed, laid-record, tiled-children}
 use Rattle.table.specs.Words.{types}
-use Rattle.table.specs.Rule.{HasChildren}
+use Rattle.table.specs.steps.Reading.{HasChildren}
 use Rattle.table.specs.Below.{OnCycle}
 use Rattle.table.specs.Check.{Laid, rankOf}
-use Rattle.table.specs.Flags.{Asked}
+use Rattle.table.specs.steps.Flags.{Asked}
 use Rattle.table.specs.declared.check.Check.{Check}
 use Rattle.table.specs.declared.check.Check.the-variants.{Layout, Bounds, Twice, Cycle}
 use Prim.Native.Nat.{ℕ, _<_}

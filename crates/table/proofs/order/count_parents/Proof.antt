@@ -3,7 +3,8 @@ use borrow.Author.Needs.{needs}
 use Rattle.table.proofs.Children.{entries-all}
 use Rattle.table.proofs.Entries.{CountedSoFar, count-start, count-more, entry-inside, read-list, entries-sum}
 use Rattle.table.proofs.Sums.{occurs-few}
-use Rattle.table.specs.Words.{types, childList}
+use Rattle.table.specs.Words.{types}
+use Rattle.table.specs.steps.Reading.{childList}
 use native.Mathlib.Omega.{arith}
 use lib.ListN.{length, getD}
 use denote.Ref.{now}

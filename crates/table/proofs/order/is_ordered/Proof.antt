@@ -1,6 +1,6 @@
 -- The loop passes the types taken, one after another, from the last place down. Assumes nothing.
 use borrow.Author.Needs.{needs}
-use Rattle.table.specs.Counts.{Filling}
+use Rattle.table.specs.steps.Counts.{Filling}
 use Rattle.table.proofs.Passes.{filling-start}
 use Rattle.table.proofs.Rooted.{refused, filled}
 use native.Mathlib.Omega.{arith}

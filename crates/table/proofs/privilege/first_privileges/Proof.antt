@@ -1,4 +1,5 @@
--- The loop keeps the first privilege of the type it stands at, and has written those of the types passed. Assumes nothing.
+-- The loop keeps the first privilege of the type it stands at, has written those of the types passed, and writes none behind the types. Assumes
+-- nothing.
 use borrow.Author.Needs.{needs}
 use Rattle.table.proofs.Facts.{facts, has-record}
 use Rattle.table.proofs.Privileges.{first-start, first-next, first-within}
@@ -6,15 +7,16 @@ use Rattle.table.proofs.Lists.{fill-more}
 use Rattle.table.specs.Words.{types}
 use Rattle.table.specs.Privilege.{firstPrivilege}
 use lib.ListN.{length, getD, length-set}
+use lib.Seq.{getD-set-other}
 use denote.Ref.{now}
 use native.Mathlib.Omega.{arith}
-use mathlib.Core.Path.{_≡_, sym, ap, _∙_}
+use mathlib.Core.Path.{_≡_, refl, sym, ap, _∙_}
 use Prim.Native.Nat.{ℕ, _+_, _-_, _≤_, _<_}
 use Rattle.table.proofs.privilege.first_privileges.Statement.{statement}
 use Rattle.table.proofs.privilege.first_privileges.Tie as tie
 
 abbrev Inv-loop : tie.InvT-loop
-Inv-loop words firsts₀ e first₀ x₀ firsts first x = (x ≤ e) × (first ≡ firstPrivilege words x) × (length firsts ≡ 256) × ((j : ℕ) → j < x → getD firsts j 0 ≡ firstPrivilege words j)
+Inv-loop words firsts₀ e first₀ x₀ firsts first x = (x ≤ e) × (first ≡ firstPrivilege words x) × (length firsts ≡ 256) × ((j : ℕ) → j < x → getD firsts j 0 ≡ firstPrivilege words j) × ((j : ℕ) → e ≤ j → getD firsts j 0 ≡ getD firsts₀ j 0)
 
 abbrev μ-loop : tie.MeasureT-loop
 μ-loop words firsts₀ e first₀ x₀ firsts first x = e - x
@@ -37,7 +39,7 @@ types-requires : tie.Need-types-requires Inv-loop μ-loop
 types-requires c κs = search needs
 
 loop-holds : tie.Need-loop-holds Inv-loop μ-loop
-loop-holds c = (search needs, sym (first-start _), c .before .before .pre .1, λ j l. absurd (omega arith))
+loop-holds c = (search needs, sym (first-start _), c .before .before .pre .1, λ j l. absurd (omega arith), λ j l. refl)
 
 cast-firsts : tie.Need-cast-firsts Inv-loop μ-loop
 cast-firsts c = record { fits = omega (arith, low c) }
@@ -68,12 +70,17 @@ loop-again c =
       ap (λ (p : ℕ). p + c .privileges-at .result) (at .inv .1) ∙ rw (c .privileges-at .ensures .is) (sym (first-next ws (at .x))),
       length-set {A = ℕ} (at .firsts) (at .x) _ ∙ at .inv .2,
       fill-more (λ j r. r ≡ firstPrivilege ws j) (at .firsts) (at .x) _ (omega (arith, at .inv .2, few (c .before))) (at .inv .3) (at .inv .1),
+      λ j l. getD-set-other (at .firsts) (at .x) j _ 0 (λ e. omega (arith, c .before .loop-test .taken)) ∙ at .inv .4 j l,
     )
 
 returns : tie.Need-returns Inv-loop μ-loop
 returns c =
     let at = c .before in
-    λ x l. at .loop .inv .3 x (omega (arith, at .before .types .ensures .is, c .loop-test .left))
+    record {
+      size = at .loop .inv .2;
+      each = λ x l. at .loop .inv .3 x (omega (arith, at .before .types .ensures .is, c .loop-test .left));
+      rest = λ x l. at .loop .inv .4 x (omega (arith, at .before .types .ensures .is));
+    }
 
 pub first-privileges-spec : {M : Type 1} → statement M
 first-privileges-spec =

@@ -1,6 +1,6 @@
 -- Each of the three was tested. Assumes nothing.
 use Rattle.table.proofs.Lowest.{tells-ne-as}
-use Rattle.table.specs.Privilege.{ReplaceableIn}
+use Rattle.table.specs.steps.Numbering.{ReplaceableIn}
 use native.Mathlib.Omega.{arith}
 use borrow.Author.Needs.{needs}
 use Rattle.table.proofs.privilege.is_replaceable.Statement.{statement}

@@ -3,7 +3,7 @@ use borrow.Author.Count.{below-more}
 use borrow.Author.Needs.{needs}
 use Rattle.verdict.proofs.Lows.{low-none, low-hit, range-none}
 use Rattle.table.proofs.Lowest.{told-yes}
-use Rattle.verdict.specs.Below.{Range}
+use Rattle.verdict.specs.steps.Lows.{Range}
 use native.Mathlib.Omega.{arith}
 use Prim.Native.Nat.{ℕ, _-_, _≤_, _<_}
 use Rattle.verdict.proofs.below.forbidden_from.Statement.{statement}

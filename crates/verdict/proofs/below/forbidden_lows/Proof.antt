@@ -11,7 +11,7 @@ use Rattle.verdict.proofs.below.forbidden_lows.Statement.{statement}
 use Rattle.verdict.proofs.below.forbidden_lows.Tie as tie
 
 abbrev Inv-loop : tie.InvT-loop
-Inv-loop words marks order low₀ e k₀ low k = Climbed words marks order k low
+Inv-loop words marks order low₀ e k₀ low k = Climbed words marks order k low₀ low
 
 abbrev μ-loop : tie.MeasureT-loop
 μ-loop words marks order low₀ e k₀ low k = e - k
@@ -86,7 +86,7 @@ loop-again c =
 returns : tie.Need-returns Inv-loop μ-loop
 returns c =
     let at = c .before in
-    climb-all (at .before .before .before .before .before .before .pre .1) (at .loop .inv) (omega (arith, c .loop-test .left, at .before .before .before .types .ensures .is))
+    climb-all (at .before .before .before .before .before .before .pre .1) (at .before .own-lows .ensures) (at .loop .inv) (omega (arith, c .loop-test .left, at .before .before .before .types .ensures .is))
 
 pub forbidden-lows-spec : {M : Type 1} → statement M
 forbidden-lows-spec =

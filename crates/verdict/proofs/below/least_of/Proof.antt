@@ -5,7 +5,7 @@ use lib.ListN.{getD}
 use mathlib.Core.Path.{_≡_, ap}
 use Rattle.verdict.proofs.Lows.{least-take, least-keep}
 use borrow.Author.Needs.{needs}
-use Rattle.verdict.specs.Below.{Least}
+use Rattle.verdict.specs.steps.Lows.{Least}
 use native.Mathlib.Omega.{arith}
 use mathlib.Core.Logic.{inl, ⊎-elim}
 use lib.ListN.{length}
@@ -50,7 +50,7 @@ loop-again c =
     let word = c .before .before .word-at in
     let l = at .loop .inv .1 in
     let read = ap (λ (y : ℕ). getD (at .before .before .args .low .now) y 0) (word .ensures .is) in
-    (search needs, ⊎-elim (λ w. rw (w .1) (least-take l read (w .0 .taken))) (λ w. rw (w .1) (least-keep l read (w .0 .left))) (c .if1 .came))
+    (search needs, ⊎-elim (λ w. rw (w .1) (least-take l read (omega (arith, w .0 .taken)))) (λ w. rw (w .1) (least-keep l read (omega (arith, w .0 .left)))) (c .if1 .came))
 
 returns : tie.Need-returns Inv-loop μ-loop
 returns c =

@@ -8,17 +8,18 @@ use borrow.Author.Needs.{needs}
 use Rattle.table.proofs.Facts.{facts, has-record}
 use Rattle.table.proofs.Lists.{fill-more}
 use Rattle.verdict.proofs.Lows.{low-own}
-use Rattle.verdict.specs.Below.{Low, ForbiddenOwn}
+use Rattle.verdict.specs.steps.Lows.{Low, ForbiddenOwn}
 use Rattle.table.specs.Privilege.{firstPrivilege}
 use native.Mathlib.Omega.{arith}
 use lib.ListN.{length, getD, length-set}
-use mathlib.Core.Path.{_≡_, sym, _∙_}
+use lib.Seq.{getD-set-other}
+use mathlib.Core.Path.{_≡_, refl, sym, _∙_}
 use Prim.Native.Nat.{ℕ, _-_, _≤_, _<_}
 use Rattle.verdict.proofs.below.own_lows.Statement.{statement}
 use Rattle.verdict.proofs.below.own_lows.Tie as tie
 
 abbrev Inv-loop : tie.InvT-loop
-Inv-loop words marks low₀ e first₀ x₀ low first x = (x ≤ e) × (first ≡ firstPrivilege words x) × (length low ≡ 256) × ((j : ℕ) → j < x → Low (ForbiddenOwn words marks j) (getD low j 0))
+Inv-loop words marks low₀ e first₀ x₀ low first x = (x ≤ e) × (first ≡ firstPrivilege words x) × (length low ≡ 256) × ((j : ℕ) → j < x → Low (ForbiddenOwn words marks j) (getD low j 0)) × ((j : ℕ) → e ≤ j → getD low j 0 ≡ getD low₀ j 0)
 
 abbrev μ-loop : tie.MeasureT-loop
 μ-loop words marks low₀ e first₀ x₀ low first x = e - x
@@ -27,7 +28,7 @@ types-requires : tie.Need-types-requires Inv-loop μ-loop
 types-requires c κs = search needs
 
 loop-holds : tie.Need-loop-holds Inv-loop μ-loop
-loop-holds c = (search needs, sym (first-start _), c .before .before .before .pre .1, λ j l. absurd (omega arith))
+loop-holds c = (search needs, sym (first-start _), c .before .before .before .pre .1, λ j l. absurd (omega arith), λ j l. refl)
 
 -- the loop stands at a type
 is-type : (c : tie.In-loop Inv-loop μ-loop) → c .before .loop .x < types (now (c .before .before .before .before .before .args .words))
@@ -88,12 +89,17 @@ loop-again c =
       length-set {A = ℕ} (at .loop .low) (at .loop .x) _ ∙ at .loop .inv .2,
       fill-more (λ j r. Low (ForbiddenOwn ws marks j) r) (at .loop .low) (at .loop .x) _ (omega (arith, at .loop .inv .2, small (c .before .before))) (at .loop .inv .3)
           (low-own (is-type (c .before .before)) (rw (at .loop .inv .1, c .before .privileges-at .ensures .is) at (c .forbidden-from .ensures))),
+      λ j l. getD-set-other (at .loop .low) (at .loop .x) j _ 0 (λ e. omega (arith, c .before .before .loop-test .taken)) ∙ at .loop .inv .4 j l,
     )
 
 returns : tie.Need-returns Inv-loop μ-loop
 returns c =
     let at = c .before .loop in
-    record { size = at .inv .2; each = λ x l. at .inv .3 x (omega (arith, c .before .before .types .ensures .is, c .loop-test .left)) }
+    record {
+      size = at .inv .2;
+      each = λ x l. at .inv .3 x (omega (arith, c .before .before .types .ensures .is, c .loop-test .left));
+      rest = λ x l. at .inv .4 x (omega (arith, c .before .before .types .ensures .is));
+    }
 
 pub own-lows-spec : {M : Type 1} → statement M
 own-lows-spec =

@@ -1,6 +1,6 @@
 -- By the cases of the rule. Assumes nothing.
 use Rattle.verdict.proofs.Breached.{plain-none}
-use Rattle.verdict.specs.Breaches.{none}
+use Rattle.verdict.specs.steps.Visits.{none}
 use Rattle.table.proofs.Facts.{has-record, has-children}
 use Rattle.table.specs.declared.rule.Rule.{Rule}
 use Rattle.table.specs.Rule.{ruleAt, kindIn}
@@ -16,7 +16,7 @@ kind : (c : tie.After-rule-at) {r : Rule} → c .rule-at .result ≡ r → kindI
 kind c e = ap kindIn (sym (c .rule-at .ensures .is) ∙ e)
 
 rule-at-requires : tie.Need-rule-at-requires
-rule-at-requires c κs = let p = c .before .before .pre in has-record (p .0 .accepted) (p .2)
+rule-at-requires c κs = let p = c .before .before .pre in has-record (p .0 .accepted) (p .1)
 
 enum-told : tie.Need-enum-told
 enum-told c = search needs
@@ -40,52 +40,52 @@ enum-told-4 : tie.Need-enum-told-4
 enum-told-4 c = search needs
 
 children-requires : tie.Need-children-requires
-children-requires c κs = let p = c .before .before .before .before .before .pre in has-children (p .0 .accepted) (p .2)
+children-requires c κs = let p = c .before .before .before .before .before .pre in has-children (p .0 .accepted) (p .1)
 
 numbers-at-requires : tie.Need-numbers-at-requires
-numbers-at-requires c κs = let p = c .before .before .before .before .before .before .pre in (p .0 .accepted, p .2, p .3)
+numbers-at-requires c κs = let p = c .before .before .before .before .before .before .pre in (p .0 .accepted, p .1, p .2)
 
 choice-breach-requires : tie.Need-choice-breach-requires
 choice-breach-requires c κs =
     let start = c .before .before .before .before .before .before .before in
     let p = start .pre in (
-      record { policy = p .0; lows = p .1; type = p .2; kids-are = c .before .children .ensures },
+      record { policy = p .0; type = p .1; kids-are = c .before .children .ensures },
       c .numbers-at .ensures,
-      record { type = p .2; kind-is = kind (c .before .before .before .before) (c .before .before .enum-told4 .given .1) },
+      record { type = p .1; kind-is = kind (c .before .before .before .before) (c .before .before .enum-told4 .given .1) },
     )
 
 enum-told-5 : tie.Need-enum-told-5
 enum-told-5 c = search needs
 
 children-requires-2 : tie.Need-children-requires-2
-children-requires-2 c κs = let p = c .before .before .before .before .before .pre in has-children (p .0 .accepted) (p .2)
+children-requires-2 c κs = let p = c .before .before .before .before .before .pre in has-children (p .0 .accepted) (p .1)
 
 numbers-at-requires-2 : tie.Need-numbers-at-requires-2
-numbers-at-requires-2 c κs = let p = c .before .before .before .before .before .before .pre in (p .0 .accepted, p .2, p .3)
+numbers-at-requires-2 c κs = let p = c .before .before .before .before .before .before .pre in (p .0 .accepted, p .1, p .2)
 
 star-breach-requires : tie.Need-star-breach-requires
 star-breach-requires c κs =
     let start = c .before .before .before .before .before .before .before in
     let p = start .pre in (
-      record { policy = p .0; lows = p .1; type = p .2; kids-are = c .before .children2 .ensures },
+      record { policy = p .0; type = p .1; kids-are = c .before .children2 .ensures },
       c .numbers-at2 .ensures,
-      record { type = p .2; kind-is = kind (c .before .before .before .before) (c .before .before .enum-told5 .given .1) },
+      record { type = p .1; kind-is = kind (c .before .before .before .before) (c .before .before .enum-told5 .given .1) },
     )
 
 returns : tie.Need-returns
 returns c =
     let k = kind (c .before .before .before) (c .before .enum-told .given .1) in
-    none (c .no-breach .ensures) (plain-none _ _ _ (λ e. omega arith) (λ e. omega arith))
+    none (c .no-breach .ensures) (plain-none _ _ _ _ (λ e. omega arith) (λ e. omega arith))
 
 returns-2 : tie.Need-returns-2
 returns-2 c =
     let k = kind (c .before .before .before) (c .before .enum-told2 .given .1) in
-    none (c .no-breach2 .ensures) (plain-none _ _ _ (λ e. omega arith) (λ e. omega arith))
+    none (c .no-breach2 .ensures) (plain-none _ _ _ _ (λ e. omega arith) (λ e. omega arith))
 
 returns-3 : tie.Need-returns-3
 returns-3 c =
     let k = kind (c .before .before .before) (c .before .enum-told3 .given .1) in
-    none (c .no-breach3 .ensures) (plain-none _ _ _ (λ e. omega arith) (λ e. omega arith))
+    none (c .no-breach3 .ensures) (plain-none _ _ _ _ (λ e. omega arith) (λ e. omega arith))
 
 returns-4 : tie.Need-returns-4
 returns-4 c = search needs

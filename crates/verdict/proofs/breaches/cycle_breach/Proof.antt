@@ -1,12 +1,14 @@
 -- The loop has passed no position with a cycle that breaks condition 3. Assumes nothing.
 
-use Rattle.verdict.specs.Reached.{Reached, marked}
-use Rattle.verdict.specs.Marks.{Allowed}
+use Rattle.policy.specs.Reached.{Reached}
+use Rattle.policy.specs.steps.Squares.{marked}
+use Rattle.policy.specs.Marks.{Allowed}
 use mathlib.Core.Bool.{true, false}
 use mathlib.Core.List.{List}
 use borrow.Author.Needs.{needs}
 use Rattle.verdict.proofs.Breached.{CyclesFrom, cycles-start, cycles-more, cycles-none, cycle-first}
-use Rattle.verdict.specs.Visits.{none}
+use Rattle.verdict.specs.steps.Lows.{Kept}
+use Rattle.verdict.specs.steps.Visits.{none}
 use Rattle.table.proofs.Lowest.{told-yes, told-no}
 use Rattle.table.proofs.Facts.{facts}
 use Rattle.table.specs.Rule.{countOf, childAt}
@@ -20,7 +22,7 @@ use Rattle.verdict.proofs.breaches.cycle_breach.Statement.{statement}
 use Rattle.verdict.proofs.breaches.cycle_breach.Tie as tie
 
 abbrev Inv-loop : tie.InvT-loop
-Inv-loop words marks low x kids square i₀ i = (i ≤ length kids) × CyclesFrom words marks x i
+Inv-loop words marks low x kids square i₀ i = (i ≤ length kids) × CyclesFrom words marks (Kept low) x i
 
 abbrev μ-loop : tie.MeasureT-loop
 μ-loop words marks low x kids square i₀ i = length kids - i
@@ -56,7 +58,7 @@ no-circle c e =
     told-no (marked (now (start .args .square)) i i) (start .pre .2 .tells i i (position (c .before)) (position (c .before))) (sym (c .leads .ensures) ∙ e)
 
 loop-holds : tie.Need-loop-holds Inv-loop μ-loop
-loop-holds c = (search needs, cycles-start _ _ _)
+loop-holds c = (search needs, cycles-start _ _ _ _)
 
 leads-requires : tie.Need-leads-requires Inv-loop μ-loop
 leads-requires c κs =
@@ -71,7 +73,8 @@ forbidden-below-requires c κs =
     let loop = c .before .before .before in
     let start = loop .before .before .before .before .before in
     let v = start .pre .0 in
-    (v .policy, v .lows, rw (child-is start (loop .before .loop .i) (c .word-at .ensures .is)) (facts (v .policy .accepted) .child-inside (start .args .x) (loop .before .loop .i) (v .type) (position loop)))
+    let f = facts (v .policy .accepted) in
+    omega (arith, child-is start (loop .before .loop .i) (c .word-at .ensures .is), f .few, f .child-inside (start .args .x) (loop .before .loop .i) (v .type) (position loop))
 
 enum-known-found : tie.Need-enum-known-found Inv-loop μ-loop
 enum-known-found c = search needs
@@ -83,7 +86,7 @@ returns c =
     let at = led .before .before in
     let start = at .before .before .before .before in
     let worst = rw (child-is start (at .loop .i) (found .before .word-at .ensures .is)) at (rw (c .before .found .given .1) at (found .forbidden-below .ensures)) in
-    cycle-first _ _ _ (start .pre .1) (at .loop .inv .1) (circle led (found .before .before .if1 .taken)) (worst .0) (worst .1)
+    cycle-first _ _ _ _ (start .pre .1) (at .loop .inv .1) (circle led (found .before .before .if1 .taken)) worst
 
 enum-told : tie.Need-enum-told Inv-loop μ-loop
 enum-told c = search needs
@@ -100,7 +103,7 @@ loop-again c =
     let at = led .before .before in
     let start = at .before .before .before .before in (
       search needs,
-      cycles-more _ _ _ (at .loop .inv .1) (λ p r f. ⊎-elim
+      cycles-more _ _ _ _ (at .loop .inv .1) (λ p r f. ⊎-elim
           (λ w. (rw (child-is start (at .loop .i) (w .1 .ensures .is)) at (rw (w .4 .given .1) at (w .2 .ensures))) p f)
           (λ w. no-circle led (w .left) r)
           (c .if1 .came)),
@@ -114,7 +117,7 @@ returns-2 c =
     let at = c .before .before in
     let start = at .before .before .before .before in
     let end : at .loop .i ≡ countOf (now (start .args .words)) (start .args .x) = omega (arith, all-here start, at .loop .inv .0, c .before .loop-test .left) in
-    none (c .no-breach .ensures) (cycles-none _ _ _ (rw end at (at .loop .inv .1)))
+    none (c .no-breach .ensures) (cycles-none _ _ _ _ (rw end at (at .loop .inv .1)))
 
 pub cycle-breach-spec : {M : Type 1} → statement M
 cycle-breach-spec =

@@ -1,104 +1,19 @@
--- The loop has passed no type with a breach. Assumes nothing.
+-- The kept numbers are right. Assumes nothing.
 use borrow.Author.Needs.{needs}
-use Rattle.verdict.proofs.Firsts.{CleanBefore, clean-start, clean-more, clean-all, at-none, at-first, no-tag}
-use Rattle.verdict.specs.Breaches.{clean, broken}
-use Rattle.table.proofs.Facts.{facts, has-record}
-use Rattle.table.proofs.Privileges.{first-start, first-next, first-within}
-use Rattle.table.specs.Privilege.{firstPrivilege}
-use Rattle.table.specs.Words.{types}
-use denote.Ref.{now}
-use native.Mathlib.Omega.{arith}
-use mathlib.Core.Path.{_≡_, refl, sym, ap, _∙_}
-use Prim.Native.Nat.{ℕ, _-_, _+_, _≤_, _<_}
+use Rattle.verdict.proofs.Kept.{kept-verdict}
 use Rattle.verdict.proofs.breaches.first_breach.Statement.{statement}
 use Rattle.verdict.proofs.breaches.first_breach.Tie as tie
 
-abbrev Inv-loop : tie.InvT-loop
-Inv-loop words marks order low e first₀ x₀ first x = (x ≤ e) × (first ≡ firstPrivilege words x) × CleanBefore words marks x
+forbidden-lows-requires : tie.Need-forbidden-lows-requires
+forbidden-lows-requires c κs = search needs
 
-abbrev μ-loop : tie.MeasureT-loop
-μ-loop words marks order low e first₀ x₀ first x = e - x
+breach-by-requires : tie.Need-breach-by-requires
+breach-by-requires c κs = search needs
 
--- the loop stands at a type
-is-type : (c : tie.In-loop Inv-loop μ-loop) → c .before .loop .x < types (now (c .before .before .before .before .before .before .before .args .words))
-is-type c = omega (arith, c .loop-test .taken, c .before .before .types .ensures .is)
-
-forbidden-lows-requires : tie.Need-forbidden-lows-requires Inv-loop μ-loop
-forbidden-lows-requires c κs = let pre = c .before .before .before .pre in (pre .0, pre .1, refl)
-
-types-requires : tie.Need-types-requires Inv-loop μ-loop
-types-requires c κs = search needs
-
-loop-holds : tie.Need-loop-holds Inv-loop μ-loop
-loop-holds c = (search needs, sym (first-start _), clean-start _ _)
-
-breach-at-requires : tie.Need-breach-at-requires Inv-loop μ-loop
-breach-at-requires c κs =
-    let at = c .before .before in
-    let start = at .before .before .before .before .before .before in
-    (start .pre .0, at .before .before .forbidden-lows .ensures, is-type (c .before), at .loop .inv .1)
-
-enum-told : tie.Need-enum-told Inv-loop μ-loop
-enum-told c = search needs
-
-privileges-at-requires : tie.Need-privileges-at-requires Inv-loop μ-loop
-privileges-at-requires c κs =
-    let loop = c .before .before .before .before in
-    has-record (loop .before .before .before .before .before .before .before .pre .0 .accepted) (is-type loop)
-
-add-first : tie.Need-add-first Inv-loop μ-loop
-add-first c =
-    let loop = c .before .before .before .before .before in
-    let start = loop .before .before .before .before .before .before .before in
-    omega (arith, c .privileges-at .ensures .small, first-within (now (start .args .words)) (loop .before .loop .x) (omega (arith, is-type loop)), facts (start .pre .0 .accepted) .privileges-few)
-
-add-x : tie.Need-add-x Inv-loop μ-loop
-add-x c = search needs
-
-loop-less : tie.Need-loop-less Inv-loop μ-loop
-loop-less c = search needs
-
-loop-again : tie.Need-loop-again Inv-loop μ-loop
-loop-again c =
-    let loop = c .before .before .before .before .before in
-    let at = loop .before .loop in
-    let found = c .before .before .before in (
-      search needs,
-      ap (λ (p : ℕ). p + c .privileges-at .result) (at .inv .1) ∙ rw (c .privileges-at .ensures .is) (sym (first-next _ (at .x))),
-      clean-more _ _ (at .inv .2) (at-none _ _ (found .breach-at .ensures) (c .before .enum-told .given .1)),
-    )
-
-returns : tie.Need-returns Inv-loop μ-loop
+returns : tie.Need-returns
 returns c =
-    let at = c .before .before .before .before in
-    broken (at-first _ _ (at .loop .inv .2) (c .before .breach-at .ensures) (λ e. no-tag (rw e at (c .match .keys2))))
-
-no-breach-requires : tie.Need-no-breach-requires Inv-loop μ-loop
-no-breach-requires c κs = search needs
-
-returns-2 : tie.Need-returns-2 Inv-loop μ-loop
-returns-2 c =
-    let at = c .before .before in
-    let start = at .before .before .before .before .before .before in
-    let end : at .loop .x ≡ types (now (start .args .words)) = omega (arith, at .loop .inv .0, c .before .loop-test .left, at .before .types .ensures .is) in
-    clean (clean-all _ _ (rw end at (at .loop .inv .2))) (c .no-breach .ensures)
+    let lows = c .before .before in
+    kept-verdict _ (lows .before .before .before .before .pre .0) (lows .forbidden-lows .ensures .each) (c .breach-by .ensures)
 
 pub first-breach-spec : {M : Type 1} → statement M
-first-breach-spec =
-    tie.close
-    (tie.spec
-    Inv-loop
-    μ-loop
-    forbidden-lows-requires
-    types-requires
-    loop-holds
-    breach-at-requires
-    enum-told
-    privileges-at-requires
-    add-first
-    add-x
-    loop-less
-    loop-again
-    returns
-    no-breach-requires
-    returns-2)
+first-breach-spec = tie.close (tie.spec forbidden-lows-requires breach-by-requires returns)

@@ -1,13 +1,13 @@
 -- The outer loop has passed the rows before i, the inner one the columns before j. Assumes nothing.
 use borrow.Author.Needs.{needs}
 use Rattle.table.proofs.Lowest.{told-yes, told-no}
-use Rattle.verdict.specs.Visits.{Broken}
+use Rattle.verdict.specs.steps.Visits.{Broken}
 use Rattle.verdict.specs.declared.breaches.Pair.the-variants.{Nothing}
 use borrow.Author.Count.{below-none, below-more}
 use mathlib.Core.Path.{_≡_, refl}
 use native.Mathlib.Omega.{arith}
 use Prim.Native.Nat.{ℕ, _-_, _≤_, _<_}
-use Rattle.verdict.proofs.SquareLaws.{broken-marked}
+use Rattle.policy.proofs.SquareLaws.{told-marked}
 use Rattle.verdict.proofs.breaches.first_broken.Statement.{statement}
 use Rattle.verdict.proofs.breaches.first_broken.Tie as tie
 
@@ -30,39 +30,27 @@ row-here c = omega (arith, c .search-test .taken, c .before .search .inv .1, c .
 search-holds : tie.Need-search-holds Inv-loop μ-loop Inv-search μ-search
 search-holds c = (search needs, refl, refl, below-none _)
 
-mul-first-column : tie.Need-mul-first-column Inv-loop μ-loop Inv-search μ-search
-mul-first-column c = search needs
-
-element-copy-out-first-column : tie.Need-element-copy-out-first-column Inv-loop μ-loop Inv-search μ-search
-element-copy-out-first-column c = row-here c
-
-mul-first-column-2 : tie.Need-mul-first-column-2 Inv-loop μ-loop Inv-search μ-search
-mul-first-column-2 c = search needs
-
-element-copy-out-first-column-2 : tie.Need-element-copy-out-first-column-2 Inv-loop μ-loop Inv-search μ-search
-element-copy-out-first-column-2 c = row-here (c .before)
-
-first-column-requires : tie.Need-first-column-requires Inv-loop μ-loop Inv-search μ-search
-first-column-requires c κs = search needs
+first-shared-requires : tie.Need-first-shared-requires Inv-loop μ-loop Inv-search μ-search
+first-shared-requires c κs = row-here c
 
 loop-holds : tie.Need-loop-holds Inv-loop μ-loop Inv-search μ-search
 loop-holds c =
-    let at = c .before .before .before in
+    let at = c .before in
     let v = at .before .search .inv in
     let start = at .before .before .before in
-    let column = c .first-column .ensures in (
+    let column = c .first-shared .ensures in (
       at .search-test .taken,
       v .1,
-      column .within,
+      omega (arith, column .within),
       v .2,
       v .3,
-      λ b l broken. column .free b l (broken .leads, broken-marked (start .pre .1) (omega (arith, at .search-test .taken, v .1)) (omega (arith, column .within, v .1)) broken),
+      λ b l broken. column .free b l (broken .leads, told-marked (start .pre .1) _ b (omega (arith, at .search-test .taken, v .1)) (omega (arith, column .within, v .1)) (broken .forbidden) .is),
     )
 
 is-broken-requires : tie.Need-is-broken-requires Inv-loop μ-loop Inv-search μ-search
 is-broken-requires c κs =
     let v = c .before .loop .inv in
-    let start = c .before .before .before .before .before .before .before .before in
+    let start = c .before .before .before .before .before .before in
     (start .pre .0, omega arith, omega (arith, c .loop-test .taken), start .pre .1)
 
 add-j : tie.Need-add-j Inv-loop μ-loop Inv-search μ-search
@@ -114,11 +102,7 @@ first-broken-spec =
     Inv-search
     μ-search
     search-holds
-    mul-first-column
-    element-copy-out-first-column
-    mul-first-column-2
-    element-copy-out-first-column-2
-    first-column-requires
+    first-shared-requires
     loop-holds
     is-broken-requires
     add-j

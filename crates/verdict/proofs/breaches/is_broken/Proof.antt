@@ -3,9 +3,8 @@ use borrow.Author.Needs.{needs}
 use borrow.Author.Tests.{not-true, not-false}
 use mathlib.Core.Bool.{true≢false}
 use mathlib.Core.Path.{sym, _∙_}
-use denote.Ref.{now}
 use Rattle.table.proofs.Lowest.{tells-by}
-use Rattle.verdict.proofs.SquareLaws.{broken-marked, marked-broken}
+use Rattle.policy.proofs.SquareLaws.{marked-told, told-marked}
 use Rattle.verdict.proofs.breaches.is_broken.Statement.{statement}
 use Rattle.verdict.proofs.breaches.is_broken.Tie as tie
 
@@ -21,10 +20,14 @@ leads-requires-2 c κs = search needs
 returns-2 : tie.Need-returns-2
 returns-2 c =
     let start = c .before .before .before .before in
-    let square = now (start .args .square) in
+    let a = start .args in
+    let bans = start .pre .3 in
     tells-by (c .leads2 .result)
-    (λ e. marked-broken {square = square} (start .pre .3) (start .pre .1) (start .pre .2) (sym (c .before .before .leads .ensures) ∙ not-false _ (c .before .if1 .left)) (sym (c .leads2 .ensures) ∙ e))
-    (λ e b. true≢false (sym (broken-marked {square = square} (start .pre .3) (start .pre .1) (start .pre .2) b) ∙ sym (c .leads2 .ensures) ∙ e))
+    (λ e. record {
+      leads = sym (c .before .before .leads .ensures) ∙ not-false _ (c .before .if1 .left);
+      forbidden = marked-told bans (a .i) (a .j) (record { from = start .pre .1; to = start .pre .2; is = sym (c .leads2 .ensures) ∙ e });
+    })
+    (λ e b. true≢false (sym (told-marked bans (a .i) (a .j) (start .pre .1) (start .pre .2) (b .forbidden) .is) ∙ sym (c .leads2 .ensures) ∙ e))
 
 pub is-broken-spec : {M : Type 1} → statement M
 is-broken-spec = tie.close (tie.spec leads-requires returns leads-requires-2 returns-2)

@@ -3,7 +3,7 @@
 use Rattle.table.specs.Privilege.{insertOf, deleteOf}
 use mathlib.Core.List.{List}
 use Rattle.verdict.proofs.Breached.{star-closed, star-free, star-first}
-use Rattle.verdict.specs.Breaches.{none}
+use Rattle.verdict.specs.steps.Visits.{none}
 use Rattle.table.proofs.Privileges.{insert-in, delete-in}
 use Rattle.table.proofs.Facts.{facts}
 use Rattle.table.specs.Rule.{childAt}
@@ -45,7 +45,7 @@ returns : tie.Need-returns
 returns c =
     let at = c .before .before in
     let start = at .before .before .before .before .before in
-    none (c .no-breach .ensures) (star-closed _ _ _ (start .pre .2) (λ both. c .before .if1 .taken (insert-mark at ∙ both .0)))
+    none (c .no-breach .ensures) (star-closed _ _ _ _ (start .pre .2) (λ both. c .before .if1 .taken (insert-mark at ∙ both .0)))
 
 deletion-requires : tie.Need-deletion-requires
 deletion-requires c κs = search needs
@@ -60,7 +60,7 @@ returns-2 : tie.Need-returns-2
 returns-2 c =
     let at = c .before .before in
     let start = at .before .before .before .before .before .before .before .before in
-    none (c .no-breach2 .ensures) (star-closed _ _ _ (start .pre .2) (λ both. c .before .if2 .taken (delete-mark at ∙ both .1)))
+    none (c .no-breach2 .ensures) (star-closed _ _ _ _ (start .pre .2) (λ both. c .before .if2 .taken (delete-mark at ∙ both .1)))
 
 word-at-requires : tie.Need-word-at-requires
 word-at-requires c κs = search needs
@@ -70,7 +70,7 @@ forbidden-below-requires c κs =
     let start = c .before .before .before .before .before .before .before .before .before .before in
     let v = start .pre .0 in
     let f = facts (v .policy .accepted) in
-    (v .policy, v .lows, rw (child-is c) (f .child-inside (start .args .x) 0 (v .type) (omega (arith, f .star-one (start .args .x) (start .pre .2)))))
+    omega (arith, child-is c, f .few, f .child-inside (start .args .x) 0 (v .type) (omega (arith, f .star-one (start .args .x) (start .pre .2))))
 
 enum-known-found : tie.Need-enum-known-found
 enum-known-found c = search needs
@@ -81,7 +81,7 @@ returns-3 c =
     let at = found .before .before .before in
     let start = at .before .before .before .before .before .before .before .before in
     let worst = rw (child-is (found .before)) at (rw (c .before .found .given .1) at (found .forbidden-below .ensures)) in
-    star-first _ _ _ (start .pre .2) (sym (insert-mark (at .before .before .before)) ∙ at .before .before .if1 .left) (sym (delete-mark at) ∙ found .before .before .if2 .left) (worst .0) (worst .1)
+    star-first _ _ _ _ (start .pre .2) (sym (insert-mark (at .before .before .before)) ∙ at .before .before .if1 .left) (sym (delete-mark at) ∙ found .before .before .if2 .left) worst
 
 enum-told : tie.Need-enum-told
 enum-told c = search needs
@@ -93,7 +93,7 @@ returns-4 : tie.Need-returns-4
 returns-4 c =
     let found = c .before .before .before in
     let start = found .before .before .before .before .before .before .before .before .before .before .before in
-    none (c .no-breach3 .ensures) (star-free _ _ _ (start .pre .2) (rw (child-is (found .before)) at (rw (c .before .enum-told .given .1) at (found .forbidden-below .ensures))))
+    none (c .no-breach3 .ensures) (star-free _ _ _ _ (start .pre .2) (rw (child-is (found .before)) at (rw (c .before .enum-told .given .1) at (found .forbidden-below .ensures))))
 
 pub star-breach-spec : {M : Type 1} → statement M
 star-breach-spec =

@@ -1,0 +1,8 @@
+-- Laws of the definitions of specs/, a file for each notion; the layers above use what is marked pub.
+pub mod Policies
+pub mod Closures
+pub mod Reaches
+pub mod SquareLaws
+pub mod Bits
+pub mod Packing
+pub mod Writings

@@ -1,0 +1,29 @@
+-- Reaching within a choice: it stays among the positions, more allowed reaches more, and a reached pair of different positions has a
+-- privilege. Assumes nothing.
+use Prim.Native.Nat.{ℕ, _<_}
+use mathlib.Core.Logic.{_≢_}
+use mathlib.Core.List.{List}
+use Rattle.table.specs.Plus.{last, next}
+use Rattle.table.specs.Rule.{IsChoice, countOf}
+use Rattle.table.specs.Privilege.{replaceOf, Replaceable}
+use Rattle.policy.specs.Reached.{Step, Reached}
+use Rattle.policy.proofs.Closures.{plus-map}
+
+pub reached-from : {ws : List ℕ} {S : ℕ → Type 0} {x i j : ℕ} → Reached ws S x i j → i < countOf ws x
+reached-from (last s) = s .can .from
+reached-from (next k s r) = s .can .from
+
+pub reached-to : {ws : List ℕ} {S : ℕ → Type 0} {x i j : ℕ} → Reached ws S x i j → j < countOf ws x
+reached-to (last s) = s .can .to
+reached-to (next k s r) = reached-to r
+
+module _ {ws : List ℕ} {S R : ℕ → Type 0} (more : (p : ℕ) → S p → R p) where
+  step-mono : {x : ℕ} (i j : ℕ) → Step ws S x i j → Step ws R x i j
+  step-mono {x} i j s = record { can = s .can; allowed = more (replaceOf ws x i j) (s .allowed) }
+
+  pub reached-mono : {x i j : ℕ} → Reached ws S x i j → Reached ws R x i j
+  reached-mono r = plus-map step-mono r
+
+-- a reached pair of different positions has a privilege
+pub reached-replaceable : {ws : List ℕ} {S : ℕ → Type 0} {x i j : ℕ} → IsChoice ws x → Reached ws S x i j → i ≢ j → Replaceable ws x i j
+reached-replaceable s r d = record { choice = s; from = reached-from r; to = reached-to r; apart = d }

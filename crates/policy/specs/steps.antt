@@ -1,0 +1,5 @@
+-- What the building blocks do, step by step; a reader of the promises needs none of it.
+pub mod Checking
+pub mod Squares
+pub mod Packed
+pub mod Writing

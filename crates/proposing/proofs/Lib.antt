@@ -1,0 +1,4 @@
+-- Laws of the definitions of specs/, and tests that compute them.
+pub mod Changes
+pub mod Answered
+pub mod ProposeTests
