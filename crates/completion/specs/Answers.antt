@@ -14,7 +14,7 @@ use Rattle.completion.specs.Completions.{Completes, LeastCompletion}
 
 -- out is what was lent, after what it holds then
 pub data CompleteAnswer (ws marks out : List ℕ) (a : Answer) (after : List ℕ) : Type 0 where
-  -- 1 to 11
+  -- 1 to 11, and 19
   refused : {number place : ℕ} → NoPolicy ws marks number place → a ≡ refusal number place → after ≡ out → CompleteAnswer ws marks out a after
   -- 12
   short : Policy ws marks → length out < privileges ws → a ≡ refusal 12 0 → after ≡ out → CompleteAnswer ws marks out a after

@@ -17,7 +17,7 @@ abbrev pub AllKept : List ℕ → List ℕ → List ℕ → Type 0
 AllKept ws marks proposed = (p : ℕ) → p < privileges ws → Kept marks proposed p
 
 pub data ProposeAnswer (ws marks proposed : List ℕ) (a : Answer) : Type 0 where
-  -- 1 to 11
+  -- 1 to 11, and 19
   refused : {number place : ℕ} → NoPolicy ws marks number place → a ≡ refusal number place → ProposeAnswer ws marks proposed a
   -- 13 and 14
   unfit : {number place : ℕ} → Policy ws marks → Unfit 13 (privileges ws) proposed number place → a ≡ refusal number place
