@@ -24,7 +24,7 @@ use Rattle.completion.specs.Granted.{Granted}
 use Rattle.completion.specs.steps.Opens.{OpensAt, star, cycle, Opened}
 use Rattle.policy.specs.steps.Writing.{Decision, allow, forbid, decision}
 use Rattle.completion.proofs.Closed.{opened-forces, Chained, forces-cases}
-use Rattle.completion.proofs.Least.{Completed, completes-clean, completed-least}
+use Rattle.completion.proofs.Least.{Completed, completes-clean, completes-grants, allowed-granted, completed-least}
 use Rattle.policy.proofs.Reaches.{reached-from}
 
 -- f 0, f 1 and so on, n numbers
@@ -118,6 +118,12 @@ module _ (ws m : List ℕ) where
 -- a clean policy has a least completion: in the paper's words, T(A) with all else forbidden is the least-privilege consistent extension
 pub clean-least : {ws m : List ℕ} → Policy ws m → Clean ws m → (n : List ℕ) × LeastCompletion ws m n
 clean-least {ws} {m} pol q = (completeBy ws m, completed-least pol (complete-by ws m) q)
+
+-- and whatever is one allows exactly T(A)
+pub least-granted : {ws m n : List ℕ} → Policy ws m → LeastCompletion ws m n → (p : ℕ) → Allowed n p ↔ Granted ws (Allowed m) p
+least-granted {ws} {m} pol l p =
+    let by = completed-least pol (complete-by ws m) (completes-clean (l .completes)) in
+    ((λ a. allowed-granted pol (complete-by ws m) p (l .least (completeBy ws m) (by .completes) p a)), completes-grants (l .completes) p)
 
 -- clean is T(A) ∩ F empty
 clean-granted : {ws m : List ℕ} → Clean ws m ↔ ((p : ℕ) → Granted ws (Allowed m) p → ¬ Forbidden m p)

@@ -31,7 +31,7 @@ module _ {ws m o : List ℕ} (c : Completes ws m o) where
   pub completes-clean : Clean ws m
   completes-clean = forces-clean (λ p f g. clean-forces (c .clean) p (forces-mono keeps-allowed f) (c .keeps p (omega arith) ∙ g))
 
-  completes-grants : (p : ℕ) → Granted ws (Allowed m) p → Allowed o p
+  pub completes-grants : (p : ℕ) → Granted ws (Allowed m) p → Allowed o p
   completes-grants p (inl a) = keeps-allowed p a
   completes-grants p (inr f) = elim (c .decided p (forced-below f)) [
     | inl a ↦ a
@@ -39,7 +39,7 @@ module _ {ws m o : List ℕ} (c : Completes ws m o) where
   ]
 
 module _ {ws m n : List ℕ} (pol : Policy ws m) (c : Completed ws m n) where
-  allowed-granted : (p : ℕ) → Allowed n p → Granted ws (Allowed m) p
+  pub allowed-granted : (p : ℕ) → Allowed n p → Granted ws (Allowed m) p
   allowed-granted p a = go (c .each p (omega (arith, marked-within n p (omega arith), c .size)))
     where
       go : Decision (Granted ws (Allowed m) p) (getD n p 0) → Granted ws (Allowed m) p

@@ -7,7 +7,7 @@ use native.Mathlib.Omega.{arith}
 use lib.ListN.{length}
 use Rattle.table.specs.Words.{types, kindAt, countAt, firstAt}
 use Rattle.table.specs.steps.Reading.{HasRecord, HasChildren}
-use Rattle.table.specs.Rule.{ruleOf, ruleAt, kindIn, countOf, childrenAt, childAt, IsStar, Child}
+use Rattle.table.specs.Rule.{ruleOf, ruleAt, kindIn, countOf, childrenAt, childAt, IsChoice, IsStar, Child}
 use Rattle.table.specs.Privilege.{privileges}
 use Rattle.table.specs.Check.{RightCount, Accepted}
 use Rattle.table.specs.declared.check.Check.the-variants.{Kind, Count, Bounds, Twice, Cycle, Unreached, Total}
@@ -20,11 +20,12 @@ use Rattle.table.proofs.Children.{childed, laid-record, tiled-children,
 pub record Facts (ws : List ℕ) : Type 0 where
   pub some : 1 ≤ types ws
   pub few : types ws ≤ 256
-  -- a type has at most 16 children, all there, all different and all types; a star has exactly one
+  -- a type has at most 16 children, all there, all different and all types; a choice has one at least, a star exactly one
   pub children-few : (x : ℕ) → x < types ws → countOf ws x ≤ 16
   pub children-here : (x : ℕ) → x < types ws → length (childrenAt ws x) ≡ countOf ws x
   pub child-inside : (x i : ℕ) → x < types ws → i < countOf ws x → childAt ws x i < types ws
   pub child-once : (x i j : ℕ) → x < types ws → i < countOf ws x → j < countOf ws x → childAt ws x i ≡ childAt ws x j → i ≡ j
+  pub choice-some : (x : ℕ) → IsChoice ws x → 1 ≤ countOf ws x
   pub star-one : (x : ℕ) → IsStar ws x → countOf ws x ≡ 1
   -- no type is on a cycle, and each is reached from the root
   pub off-cycle : (x : ℕ) → x < types ws → OffCycle ws x
@@ -93,6 +94,7 @@ module _ {ws : List ℕ} (a : Accepted ws) where
     children-here = λ x l. children-all tiled-all x l;
     child-inside = λ x i l h. a .passes Bounds x l i (rw (children-all tiled-all x l) h);
     child-once = once;
+    choice-some = λ x s. rw (count-read tiled-all x (s .type)) (a .passes Count x (s .type) .choice (sym (kind-read x (s .type)) ∙ s .kind-is) .0);
     star-one = λ x s. count-read tiled-all x (s .type) ∙ a .passes Count x (s .type) .star (sym (kind-read x (s .type)) ∙ s .kind-is);
     off-cycle = a .passes Cycle;
     reached = a .passes Unreached;

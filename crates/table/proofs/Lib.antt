@@ -9,6 +9,7 @@ pub mod Children
 pub mod Belows
 pub mod Sums
 pub mod Listings
+pub mod Climbs
 pub mod Entries
 pub mod Takings
 pub mod Passes

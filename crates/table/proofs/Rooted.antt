@@ -1,10 +1,9 @@
 -- Where no type is on a cycle and each is reached from the root, all are taken; so taking tells whether it is so. Assumes nothing.
-use Prim.Native.Nat.{ℕ, zero, suc, _+_, _-_, _≤_, _<_}
+use Prim.Native.Nat.{ℕ, zero, suc, _-_, _≤_, _<_}
 use mathlib.Core.Path.{_≡_, refl, sym, _∙_}
 use mathlib.Core.Logic.{_≢_, _⊎_, inl, inr}
 use mathlib.Core.Bool.{Bool, true, false, true≢false}
 use mathlib.Core.List.{List}
-use native.Mathlib.Nat.{eq-or-lt-of-le}
 use native.Mathlib.Decide.{ℕ-discrete}
 use native.Mathlib.Omega.{arith}
 use lib.Dec.{eqb}
@@ -22,7 +21,8 @@ use Rattle.table.proofs.Lists.{le-or-lt}
 use Rattle.table.proofs.Lowest.{told-yes, tells-eq, tells-eq-as}
 use Rattle.table.proofs.Belows.{below-trans}
 use Rattle.table.proofs.Sums.{sum-some}
-use Rattle.table.proofs.Listings.{listed-within, listed-left, pigeons, values, value-at}
+use Rattle.table.proofs.Listings.{listed-within, listed-left}
+use Rattle.table.proofs.Climbs.{climb-cyclic}
 use Rattle.table.proofs.Entries.{entries-child}
 use Rattle.table.proofs.Orders.{Taken, taken-now, top-down, taken-ordered, backwards}
 
@@ -71,31 +71,8 @@ module _ {ws order : List ℕ} {n : ℕ} (o : Ordered ws) (t : Taken ws order n)
     unfolding walk up
     step k = left-parent (walk k) .1
 
-    -- an earlier one is below a later one
-    below-walk : (j k : ℕ) → j ≤ k → Below ws (walk j .type) (walk k .type)
-    unfolding walk
-    below-walk j zero h = let z : j ≡ 0 = omega arith in rw z here
-    below-walk j (suc k) h = elim (eq-or-lt-of-le h) [
-      | inl e ↦ rw e here
-      | inr m ↦ down (walk k .type) (step k) (below-walk j k (omega arith))
-    ]
-
-    -- twice the same is a cycle
-    cycle : (j k : ℕ) → j < k → walk j .type ≡ walk k .type → OnCycle ws (walk k .type)
-    cycle j zero h e = absurd (omega arith)
-    cycle j (suc k) h e = record { child = walk k .type; is-child = step k; below = rw (← e) (below-walk j k (omega arith)) }
-
-    steps : ℕ → ℕ
-    steps k = walk k .type
-
     none-left : ⊥
-    unfolding steps
-    none-left =
-        let m : ℕ = types ws + 1 in
-        let at : (k : ℕ) → k < m → getD (values steps m) k 0 ≡ walk k .type = value-at steps m in
-        let two = pigeons (types ws) (values steps m) (λ k h. rw (at k h) (walk k .low)) in
-        let same : walk (two .first) .type ≡ walk (two .second) .type = sym (at (two .first) (omega (arith, two .ordered, two .low))) ∙ two .same ∙ at (two .second) (two .low) in
-        o .off-cycle (walk (two .second) .type) (walk (two .second) .low) (cycle (two .first) (two .second) (two .ordered) same)
+    none-left = let c = climb-cyclic (λ k. walk k .type) (λ k h. walk k .low) (λ k h. step k) in o .off-cycle (c .type) (c .low) (c .cycle)
 
   all-taken : n ≡ types ws
   all-taken = go (le-or-lt (types ws) n)
