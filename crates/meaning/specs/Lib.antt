@@ -1,0 +1,6 @@
+-- What a verdict means, a file for each notion.
+pub mod Trees
+pub mod Edits
+pub mod Consistent
+pub mod Readings
+pub mod Meaning
