@@ -4,6 +4,7 @@ mod literal;
 mod policies;
 mod samples;
 mod tables;
+mod tickets;
 
 use crate::fail;
 use crate::making::chance::Random;
@@ -12,6 +13,7 @@ use policies::{
 };
 use samples::self_both_numberings;
 use tables::{self_descent, self_hierarchies, self_named_tables, self_numbering, small_schema};
+use tickets::self_tickets;
 
 fn expect(holds: bool, what: &str) {
     if !holds {
@@ -26,7 +28,7 @@ pub fn self_check(seed: u64, count: usize) -> String {
     let mut r = Random(seed);
     let numbers: Vec<usize> = (0..count).map(|_| self_descent(&small_schema(&mut r))).collect();
     let of = |wanted: usize| numbers.iter().filter(|&&number| number == wanted).count();
-    let (mut clean, mut blanks) = (0, 0);
+    let (mut clean, mut blanks, mut tried, mut tickets) = (0, 0, 0, 0);
     for _ in 0..count {
         let (schema, table, marks) = small_policy(&mut r);
         let words = schema.words();
@@ -37,11 +39,15 @@ pub fn self_check(seed: u64, count: usize) -> String {
         self_renumbered(&mut r, &schema, &table, &marks);
         clean += self_completion(&words, &table, &marks) as usize;
         blanks += unset(&marks);
+        let small = self_tickets(&schema, &table, &marks);
+        tried += (small > 0) as usize;
+        tickets += small;
     }
     [
         format!("self: S1 to S10 in both numberings, the named tables, {} tables ", count),
         format!("({} accepted, {} with number 8, {} with 19) ", of(0), of(8), of(19)),
-        format!("and {} policies ({} clean, {} unset marks) hold\n", count, clean, blanks),
+        format!("and {} policies ({} clean, {} unset marks; ", count, clean, blanks),
+        format!("{} of them by trial on {} tickets) hold\n", tried, tickets),
     ]
     .concat()
 }

@@ -1,0 +1,152 @@
+// Document 000, definitions 3 to 7, by trial: small tickets, every edit that stays among them, and where allowed edits lead.
+
+use super::expect;
+use crate::completing::completion;
+use crate::conditions::{first_breach, forced};
+use crate::making::schemas::Schema;
+use crate::table::{Table, Type, ALLOWED, CHOICE, FORBIDDEN, SEQUENCE, STAR, TEXT};
+
+/// Children are in ascending order, so that what differs in the order of siblings only is equal.
+#[derive(Clone, PartialEq, Eq, PartialOrd, Ord)]
+struct Element {
+    of: usize,
+    text: u8,
+    children: Vec<Element>,
+}
+
+const TEXTS: [u8; 2] = [0, 1];
+const MOST_IN_STAR: usize = 2;
+const MOST_TICKETS: usize = 40;
+
+fn element(of: usize, text: u8, mut children: Vec<Element>) -> Element {
+    children.sort();
+    Element { of, text, children }
+}
+
+/// Each row of children with one more from `kinds`.
+fn longer(rows: &[Vec<Element>], kinds: &[Element]) -> Vec<Vec<Element>> {
+    let behind = |row: &[Element], last: &Element| [row, &[last.clone()]].concat();
+    rows.iter().flat_map(|row| kinds.iter().map(move |last| behind(row, last))).collect()
+}
+
+fn few<T>(items: Vec<T>) -> Option<Vec<T>> {
+    Some(items).filter(|items| items.len() <= MOST_TICKETS)
+}
+
+/// All small elements of a type, or nothing where they are too many: then so are the tickets.
+fn elements(types: &[Type], of: usize) -> Option<Vec<Element>> {
+    let below = types[of].children.iter().map(|&child| elements(types, child));
+    let below = below.collect::<Option<Vec<_>>>()?;
+    let none = vec![Vec::new()];
+    let rows = match types[of].kind {
+        SEQUENCE => below.iter().fold(Some(none), |rows, kinds| few(longer(&rows?, kinds)))?,
+        CHOICE => below.concat().into_iter().map(|child| vec![child]).collect(),
+        STAR => {
+            let one = longer(&none, &below[0]);
+            let two = longer(&one, &below[0]);
+            [none, one, two].concat()
+        }
+        _ => none,
+    };
+    let texts = if types[of].kind == TEXT { &TEXTS[..] } else { &TEXTS[..1] };
+    let of_text = |&text: &u8| rows.iter().map(move |row| element(of, text, row.clone()));
+    let mut found: Vec<Element> = texts.iter().flat_map(of_text).collect();
+    found.sort();
+    found.dedup();
+    few(found)
+}
+
+/// An element with another row of children.
+fn with(it: &Element, children: Vec<Element>) -> Element {
+    element(it.of, it.text, children)
+}
+
+fn without(it: &Element, k: usize) -> Vec<Element> {
+    [&it.children[..k], &it.children[k + 1..]].concat()
+}
+
+/// The edits at an element itself, each with the privilege that it asks for.
+fn edits_at(table: &Table, small: &[Vec<Element>], it: &Element) -> Vec<(usize, Element)> {
+    let (of, own) = (it.of, &table.types[it.of]);
+    match own.kind {
+        TEXT => TEXTS.iter().map(|&text| (table.first[of], element(of, text, Vec::new()))).collect(),
+        STAR => {
+            let more = |new: &Element| with(it, [&it.children[..], &[new.clone()]].concat());
+            let has_room = it.children.len() < MOST_IN_STAR;
+            let room = if has_room { &small[own.children[0]][..] } else { &[] };
+            let inserts = room.iter().map(|new| (table.insert(of), more(new)));
+            let less = |k: usize| with(it, without(it, k));
+            let deletes = (0..it.children.len()).map(|k| (table.delete(of), less(k)));
+            inserts.chain(deletes).collect()
+        }
+        CHOICE => {
+            let position = |of: usize| own.children.iter().position(|&child| child == of);
+            let i = position(it.children[0].of).expect("a choice's child is of one of its kinds");
+            let others = (0..own.children.len()).filter(|&j| j != i);
+            let by = |j: usize| {
+                let new = small[own.children[j]].iter();
+                new.map(move |new| (table.replacement(of, i, j), with(it, vec![new.clone()])))
+            };
+            others.flat_map(by).collect()
+        }
+        _ => Vec::new(),
+    }
+}
+
+/// The edits at an element or somewhere below it.
+fn edits(table: &Table, small: &[Vec<Element>], it: &Element) -> Vec<(usize, Element)> {
+    let mut found = edits_at(table, small, it);
+    for (k, child) in it.children.iter().enumerate() {
+        for (privilege, new) in edits(table, small, child) {
+            found.push((privilege, with(it, [without(it, k), vec![new]].concat())));
+        }
+    }
+    found
+}
+
+/// The tickets that allowed edits lead to from one.
+fn led_to(steps: &[Vec<(usize, usize)>], marks: &[u8], from: usize) -> Vec<bool> {
+    let mut found = vec![false; steps.len()];
+    let mut waiting = vec![from];
+    while let Some(ticket) = waiting.pop() {
+        if !found[ticket] {
+            found[ticket] = true;
+            let allowed = steps[ticket].iter().filter(|step| marks[step.0] == ALLOWED);
+            waiting.extend(allowed.map(|step| step.1));
+        }
+    }
+    found
+}
+
+/// Which privileges have an edit that changes some ticket and that allowed edits imitate.
+fn imitated(steps: &[Vec<(usize, usize)>], marks: &[u8]) -> Vec<bool> {
+    let mut found = vec![false; marks.len()];
+    for (from, edits) in steps.iter().enumerate() {
+        let led = led_to(steps, marks, from);
+        for step in edits.iter().filter(|step| step.1 != from && led[step.1]) {
+            found[step.0] = true;
+        }
+    }
+    found
+}
+
+/// Theorem 1, edit by edit; gives the number of tickets, 0 where they are too many.
+pub fn self_tickets(schema: &Schema, table: &Table, marks: &[u8]) -> usize {
+    let small = (0..table.types.len()).map(|t| elements(&table.types, t));
+    let Some(small) = small.collect::<Option<Vec<_>>>() else { return 0 };
+    let tickets = &small[schema.root];
+    let at = |ticket: &Element| tickets.binary_search(ticket).expect("an edit leaves a ticket");
+    let step = |(privilege, new): (usize, Element)| (privilege, at(&new));
+    let steps_of = |ticket: &Element| edits(table, &small, ticket).into_iter().map(step).collect();
+    let steps: Vec<Vec<(usize, usize)>> = tickets.iter().map(steps_of).collect();
+    let done = imitated(&steps, marks);
+    let mut granted: Vec<bool> = marks.iter().map(|&mark| mark == ALLOWED).collect();
+    forced(table, marks).for_each(|breach| granted[breach.privilege] = true);
+    expect(done == granted, "what is granted is what can be imitated");
+    let forbidden = (0..marks.len()).any(|p| done[p] && marks[p] == FORBIDDEN);
+    let broken = first_breach(table, marks).is_some();
+    expect(broken == forbidden, "a breach exactly if a forbidden edit is imitated");
+    let allowed: Vec<bool> = completion(table, marks).iter().map(|&mark| mark == ALLOWED).collect();
+    expect(done == allowed, "a completion allows what can be imitated");
+    tickets.len()
+}
