@@ -1,0 +1,3 @@
+-- What scanning a text answers, and under steps what its readers do.
+pub mod Scanned
+pub mod steps
