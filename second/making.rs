@@ -3,6 +3,7 @@
 pub mod chance;
 pub mod cycles;
 mod damage;
+pub mod dtds;
 pub mod files;
 pub mod policies;
 pub mod schemas;

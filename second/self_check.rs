@@ -1,5 +1,6 @@
 // The second program's check of itself.
 
+pub mod dtds;
 mod literal;
 mod policies;
 mod samples;
@@ -8,6 +9,7 @@ mod tickets;
 
 use crate::fail;
 use crate::making::chance::Random;
+use dtds::self_dtds;
 use policies::{
     self_completion, self_mend, self_one_more, self_renumbered, self_verdict, small_policy, unset,
 };
@@ -50,4 +52,5 @@ pub fn self_check(seed: u64, count: usize) -> String {
         format!("{} of them by trial on {} tickets) hold\n", tried, tickets),
     ]
     .concat()
+        + &self_dtds(seed, count)
 }

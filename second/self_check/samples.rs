@@ -10,7 +10,7 @@ use crate::mending::{judge_mend, mend};
 use crate::stream::to_bytes;
 use crate::table::check_table;
 
-const SAMPLE: [u16; 39] = [
+pub const SAMPLE: [u16; 39] = [
     1, 39, 8, 0, 8, 7, 32, 11, 4, 1, 0, 2, 3, 1, 1, 0, 4, 1, 0, 4, 3, 3, 4, 0, 0, 7, 0, 0, 7, 1, 0, 7, 1, 2,
     3, 4, 5, 6, 7,
 ];
