@@ -21,13 +21,13 @@ declaration-path p q r = λ i. record { place = p i; named = q i; content = r i 
 cons-path : {A : Type 0} {a b : A} {l m : List A} → a ≡ b → l ≡ m → a ∷ l ≡ b ∷ m
 cons-path p q = λ i. p i ∷ q i
 
-name-no-space : {t n : List ℕ} {a b : ℕ} → Name t a b n → ¬ Of isSpace t a
+pub name-no-space : {t n : List ℕ} {a b : ℕ} → Name t a b n → ¬ Of isSpace t a
 name-no-space n o = apart space-no-start o (n .start)
 
 name-same : {t n m : List ℕ} {a b c : ℕ} → Name t a b n → Name t a c m → b ≡ c → n ≡ m
 name-same x y e = rw (x .is, y .is, e)
 
-names-after : {t : List ℕ} {a b : ℕ} {us : List Use} → Names t a b us → After t a
+pub names-after : {t : List ℕ} {a b : ℕ} {us : List Use} → Names t a b us → After t a
 names-after (no-name s l) = after-blanks s (literal-start l) refl refl
 names-after (one-name s g r n e m) = after-blanks s g refl refl
 
@@ -181,16 +181,16 @@ remark-unique (one-dash i o r) (one-dash j p s) = remark-unique r s
 comment-unique : {t : List ℕ} {a b c : ℕ} → Comment t a b → Comment t a c → b ≡ c
 comment-unique p q = let z = literal-unique (p .open-it) (q .open-it) in remark-unique (p .rest) (rw (sym z) at (q .rest))
 
-comment-third : {t : List ℕ} {a b : ℕ} → Comment t a b → Byte t (suc (suc a)) 45
+pub comment-third : {t : List ℕ} {a b : ℕ} → Comment t a b → Byte t (suc (suc a)) 45
 comment-third c = third (c .open-it)
   where
     third : {t : List ℕ} {a b : ℕ} → Literal t (60 ∷ 33 ∷ 45 ∷ 45 ∷ []) a b → Byte t (suc (suc a)) 45
     third (byte g (byte h (byte i l))) = i
 
-element-start : {t : List ℕ} {a b : ℕ} {d : Declaration} → Element t a b d → Byte t a 60
+pub element-start : {t : List ℕ} {a b : ℕ} {d : Declaration} → Element t a b d → Byte t a 60
 element-start (element l s n p u x v g) = literal-start l
 
-element-third : {t : List ℕ} {a b : ℕ} {d : Declaration} → Element t a b d → Byte t (suc (suc a)) 69
+pub element-third : {t : List ℕ} {a b : ℕ} {d : Declaration} → Element t a b d → Byte t (suc (suc a)) 69
 element-third (element (byte g (byte h (byte i l))) s n p u x v k) = i
 
 over : {t : List ℕ} {a x : ℕ} → a ≡ length t → Byte t a x → ⊥

@@ -5,7 +5,7 @@ use mathlib.Core.Path.{_≡_, refl, sym, _∙_, ap}
 use mathlib.Core.Bool.{Bool, true, false, _||_, cond}
 use mathlib.Core.List.{List, [], _∷_}
 use native.Mathlib.Omega.{arith}
-use lib.Dec.{T, eqb, eqb→eq}
+use lib.Dec.{eqb, eqb→eq}
 use lib.ListN.{getD}
 use Rattle.grammar.specs.Bytes.{ascii, oneOf, isSpace, isNameStart, isNameByte, isMark, Byte, Of, Span, stop, go-on, Literal, done, byte}
 use Rattle.grammar.specs.Tree.{Mark, once, maybe, any, several}

@@ -10,7 +10,7 @@ use Rattle.grammar.specs.Tree.{Declaration, Nth, first, later}
 use Rattle.model.specs.Names.{DeclaredBefore}
 use Rattle.model.specs.Tables.{sameName, numberIn, numberOf}
 
-same-itself : (n : List ℕ) → sameName n n ≡ true
+pub same-itself : (n : List ℕ) → sameName n n ≡ true
 same-itself [] = refl
 same-itself (a ∷ n) = rw (told (eqb a a) (eqb-refl a), same-itself n)
   where
@@ -18,7 +18,7 @@ same-itself (a ∷ n) = rw (told (eqb a a) (eqb-refl a), same-itself n)
     told true t = refl
     told false t = absurd t
 
-same-is : (x y : List ℕ) → sameName x y ≡ true → x ≡ y
+pub same-is : (x y : List ℕ) → sameName x y ≡ true → x ≡ y
 same-is [] [] e = refl
 same-is [] (b ∷ y) e = cc
 same-is (a ∷ x) [] e = cc

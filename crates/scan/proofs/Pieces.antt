@@ -136,7 +136,7 @@ maybe-moves {class} {K} {t} g f i (left {a} o) = piece-moves g (omega arith) i (
     only m u n h l none q = refl
 
 -- names
-span-in : {class : ℕ → Bool} {t : List ℕ} {a b : ℕ} → Span class t a b → a ≤ length t → b ≤ length t
+pub span-in : {class : ℕ → Bool} {t : List ℕ} {a b : ℕ} → Span class t a b → a ≤ length t → b ≤ length t
 span-in stop l = l
 span-in (go-on o s) l = span-in s (o .within)
 

@@ -1,7 +1,7 @@
 -- What the readers answer, one after another. Assumes nothing.
 use Prim.Native.Nat.{ℕ, suc, _-_, _≤_}
 use Prim.Native.Char.{code}
-use mathlib.Core.Path.{_≡_, refl, ap, subst}
+use mathlib.Core.Path.{_≡_, refl, subst}
 use mathlib.Core.Logic.{_≢_, inl, inr}
 use mathlib.Core.List.{List, [], _∷_}
 use native.Mathlib.Omega.{arith}

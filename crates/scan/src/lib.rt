@@ -4,10 +4,10 @@ ghost use Prim.Native.Nat.{min};
 ghost use mathlib.Core.Path.{_≡_};
 ghost use Rattle.scan.specs.steps.Readers.{placeOf};
 
-mod bytes;
+pub mod bytes;
 mod group;
 mod item;
-mod piece;
+pub mod piece;
 
 // Where a part of the text ends; the first byte that cannot stand in it; the byte at which it passes a limit.
 pub enum Step {

@@ -5,11 +5,6 @@ use Rattle.scan.proofs.Whole.{scanned, too-long}
 use borrow.Author.Needs.{needs}
 use Rattle.scan.proofs.scan.Statement.{statement}
 use Rattle.scan.proofs.scan.Tie as tie
-use Rattle.scan.proofs.scan.Reads as reads
-use Rattle.scan.proofs.scan.Lts as lts
-use Rattle.scan.proofs.item.items.Reads as items-reads
-use Rattle.scan.proofs.least.Reads as least-reads
-use Rattle.scan.proofs.place.Reads as place-reads
 
 -- src/lib.rt:42:9
 least-requires : tie.Need-least-requires

@@ -5,13 +5,6 @@ use mathlib.Core.Bool.{Bool}
 use borrow.Author.Needs.{needs}
 use Rattle.scan.proofs.bytes.belongs.Statement.{statement}
 use Rattle.scan.proofs.bytes.belongs.Tie as tie
-use Rattle.scan.proofs.bytes.belongs.Reads as reads
-use Rattle.scan.proofs.bytes.belongs.Lts as lts
-use Rattle.scan.proofs.bytes.is_mark.Reads as is-mark-reads
-use Rattle.scan.proofs.bytes.is_name_byte.Reads as is-name-byte-reads
-use Rattle.scan.proofs.bytes.is_name_start.Reads as is-name-start-reads
-use Rattle.scan.proofs.bytes.is_no_dash.Reads as is-no-dash-reads
-use Rattle.scan.proofs.bytes.is_space.Reads as is-space-reads
 
 -- src/bytes.rt:70:25
 enum-told : tie.Need-enum-told

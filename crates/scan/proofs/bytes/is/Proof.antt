@@ -4,8 +4,6 @@ use native.Mathlib.Omega.{arith}
 use borrow.Author.Needs.{needs}
 use Rattle.scan.proofs.bytes.is.Statement.{statement}
 use Rattle.scan.proofs.bytes.is.Tie as tie
-use Rattle.scan.proofs.bytes.is.Reads as reads
-use Rattle.scan.proofs.bytes.is.Lts as lts
 
 -- src/bytes.rt:93:16
 shared-slice-read-result : tie.Need-shared-slice-read-result

@@ -1,9 +1,6 @@
 use borrow.Author.Needs.{needs}
 use Rattle.scan.proofs.bytes.is_mark.Statement.{statement}
 use Rattle.scan.proofs.bytes.is_mark.Tie as tie
-use Rattle.scan.proofs.bytes.is_mark.Reads as reads
-use Rattle.scan.proofs.bytes.is_mark.Lts as lts
-use Rattle.scan.proofs.bytes.or.Reads as or-reads
 
 -- src/bytes.rt:48:33
 or-requires : tie.Need-or-requires

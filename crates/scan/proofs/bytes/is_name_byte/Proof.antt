@@ -1,11 +1,6 @@
 use borrow.Author.Needs.{needs}
 use Rattle.scan.proofs.bytes.is_name_byte.Statement.{statement}
 use Rattle.scan.proofs.bytes.is_name_byte.Tie as tie
-use Rattle.scan.proofs.bytes.is_name_byte.Reads as reads
-use Rattle.scan.proofs.bytes.is_name_byte.Lts as lts
-use Rattle.scan.proofs.bytes.is_name_start.Reads as is-name-start-reads
-use Rattle.scan.proofs.bytes.or.Reads as or-reads
-use Rattle.scan.proofs.bytes.within.Reads as within-reads
 
 -- src/bytes.rt:42:8
 is-name-start-requires : tie.Need-is-name-start-requires

@@ -1,10 +1,6 @@
 use borrow.Author.Needs.{needs}
 use Rattle.scan.proofs.bytes.is_name_start.Statement.{statement}
 use Rattle.scan.proofs.bytes.is_name_start.Tie as tie
-use Rattle.scan.proofs.bytes.is_name_start.Reads as reads
-use Rattle.scan.proofs.bytes.is_name_start.Lts as lts
-use Rattle.scan.proofs.bytes.or.Reads as or-reads
-use Rattle.scan.proofs.bytes.within.Reads as within-reads
 
 -- src/bytes.rt:36:22
 or-requires : tie.Need-or-requires

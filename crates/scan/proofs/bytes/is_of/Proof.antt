@@ -4,9 +4,6 @@ use native.Mathlib.Omega.{arith}
 use borrow.Author.Needs.{needs}
 use Rattle.scan.proofs.bytes.is_of.Statement.{statement}
 use Rattle.scan.proofs.bytes.is_of.Tie as tie
-use Rattle.scan.proofs.bytes.is_of.Reads as reads
-use Rattle.scan.proofs.bytes.is_of.Lts as lts
-use Rattle.scan.proofs.bytes.belongs.Reads as belongs-reads
 
 -- src/bytes.rt:83:31
 shared-slice-read-belongs : tie.Need-shared-slice-read-belongs

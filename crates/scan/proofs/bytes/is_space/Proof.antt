@@ -1,9 +1,6 @@
 use borrow.Author.Needs.{needs}
 use Rattle.scan.proofs.bytes.is_space.Statement.{statement}
 use Rattle.scan.proofs.bytes.is_space.Tie as tie
-use Rattle.scan.proofs.bytes.is_space.Reads as reads
-use Rattle.scan.proofs.bytes.is_space.Lts as lts
-use Rattle.scan.proofs.bytes.or.Reads as or-reads
 
 -- src/bytes.rt:30:49
 or-requires : tie.Need-or-requires

@@ -3,9 +3,6 @@ use Rattle.scan.proofs.Declared.{any-passes, any-stops}
 use borrow.Author.Needs.{needs}
 use Rattle.scan.proofs.item.any.Statement.{statement}
 use Rattle.scan.proofs.item.any.Tie as tie
-use Rattle.scan.proofs.item.any.Reads as reads
-use Rattle.scan.proofs.item.any.Lts as lts
-use Rattle.scan.proofs.piece.word.Reads as word-reads
 
 -- src/item.rt:68:25
 slice-aggregate-word : tie.Need-slice-aggregate-word

@@ -5,10 +5,6 @@ use Rattle.scan.proofs.Declared.{dashes-read}
 use borrow.Author.Needs.{needs}
 use Rattle.scan.proofs.item.comment.Statement.{statement}
 use Rattle.scan.proofs.item.comment.Tie as tie
-use Rattle.scan.proofs.item.comment.Reads as reads
-use Rattle.scan.proofs.item.comment.Lts as lts
-use Rattle.scan.proofs.item.remark.Reads as remark-reads
-use Rattle.scan.proofs.piece.word.Reads as word-reads
 
 -- src/item.rt:180:25
 slice-aggregate-word : tie.Need-slice-aggregate-word

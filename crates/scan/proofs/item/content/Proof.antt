@@ -5,12 +5,6 @@ use Rattle.scan.proofs.Declared.{empty-reads}
 use borrow.Author.Needs.{needs}
 use Rattle.scan.proofs.item.content.Statement.{statement}
 use Rattle.scan.proofs.item.content.Tie as tie
-use Rattle.scan.proofs.item.content.Reads as reads
-use Rattle.scan.proofs.item.content.Lts as lts
-use Rattle.scan.proofs.bytes.is.Reads as is-reads
-use Rattle.scan.proofs.item.any.Reads as any-reads
-use Rattle.scan.proofs.item.opened.Reads as opened-reads
-use Rattle.scan.proofs.piece.word.Reads as word-reads
 
 -- src/item.rt:80:8
 is-requires : tie.Need-is-requires

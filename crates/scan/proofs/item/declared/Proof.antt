@@ -4,8 +4,6 @@ use Rattle.scan.specs.steps.Items.{declaredOf}
 use borrow.Author.Needs.{needs}
 use Rattle.scan.proofs.item.declared.Statement.{statement}
 use Rattle.scan.proofs.item.declared.Tie as tie
-use Rattle.scan.proofs.item.declared.Reads as reads
-use Rattle.scan.proofs.item.declared.Lts as lts
 
 -- src/item.rt:199:18
 enum-known-r : tie.Need-enum-known-r

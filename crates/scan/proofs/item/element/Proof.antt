@@ -4,10 +4,6 @@ use Rattle.scan.proofs.Declared.{keyword-reads}
 use borrow.Author.Needs.{needs}
 use Rattle.scan.proofs.item.element.Statement.{statement}
 use Rattle.scan.proofs.item.element.Tie as tie
-use Rattle.scan.proofs.item.element.Reads as reads
-use Rattle.scan.proofs.item.element.Lts as lts
-use Rattle.scan.proofs.item.from_element.Reads as from-element-reads
-use Rattle.scan.proofs.piece.word.Reads as word-reads
 
 -- src/item.rt:145:25
 slice-aggregate-word : tie.Need-slice-aggregate-word

@@ -4,8 +4,6 @@ use Rattle.scan.specs.declared.Step.{Step}
 use Rattle.scan.specs.steps.Items.{finishOf}
 use Rattle.scan.proofs.item.finish.Statement.{statement}
 use Rattle.scan.proofs.item.finish.Tie as tie
-use Rattle.scan.proofs.item.finish.Reads as reads
-use Rattle.scan.proofs.item.finish.Lts as lts
 
 -- src/item.rt:239:1
 returns : tie.Need-returns

@@ -3,11 +3,6 @@ use Rattle.scan.proofs.Declared.{end-reads}
 use borrow.Author.Needs.{needs}
 use Rattle.scan.proofs.item.from_content.Statement.{statement}
 use Rattle.scan.proofs.item.from_content.Tie as tie
-use Rattle.scan.proofs.item.from_content.Reads as reads
-use Rattle.scan.proofs.item.from_content.Lts as lts
-use Rattle.scan.proofs.item.content.Reads as content-reads
-use Rattle.scan.proofs.piece.blanks.Reads as blanks-reads
-use Rattle.scan.proofs.piece.word.Reads as word-reads
 
 -- src/item.rt:97:9
 content-requires : tie.Need-content-requires

@@ -4,10 +4,6 @@ use Rattle.scan.proofs.Declared.{element-space}
 use borrow.Author.Needs.{needs}
 use Rattle.scan.proofs.item.from_element.Statement.{statement}
 use Rattle.scan.proofs.item.from_element.Tie as tie
-use Rattle.scan.proofs.item.from_element.Reads as reads
-use Rattle.scan.proofs.item.from_element.Lts as lts
-use Rattle.scan.proofs.item.from_name.Reads as from-name-reads
-use Rattle.scan.proofs.piece.space.Reads as space-reads
 
 -- src/item.rt:133:9
 space-requires : tie.Need-space-requires

@@ -4,10 +4,6 @@ use Rattle.scan.proofs.Declared.{declared-name}
 use borrow.Author.Needs.{needs}
 use Rattle.scan.proofs.item.from_name.Statement.{statement}
 use Rattle.scan.proofs.item.from_name.Tie as tie
-use Rattle.scan.proofs.item.from_name.Reads as reads
-use Rattle.scan.proofs.item.from_name.Lts as lts
-use Rattle.scan.proofs.item.from_named.Reads as from-named-reads
-use Rattle.scan.proofs.piece.name.Reads as name-reads
 
 -- src/item.rt:121:9
 name-requires : tie.Need-name-requires

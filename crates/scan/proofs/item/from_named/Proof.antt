@@ -4,10 +4,6 @@ use Rattle.scan.proofs.Declared.{named-space}
 use borrow.Author.Needs.{needs}
 use Rattle.scan.proofs.item.from_named.Statement.{statement}
 use Rattle.scan.proofs.item.from_named.Tie as tie
-use Rattle.scan.proofs.item.from_named.Reads as reads
-use Rattle.scan.proofs.item.from_named.Lts as lts
-use Rattle.scan.proofs.item.from_content.Reads as from-content-reads
-use Rattle.scan.proofs.piece.space.Reads as space-reads
 
 -- src/item.rt:109:9
 space-requires : tie.Need-space-requires

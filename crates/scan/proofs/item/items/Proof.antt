@@ -8,11 +8,6 @@ use Rattle.scan.specs.steps.Moves.{Moves}
 use Rattle.scan.proofs.Declared.{start, item-is, at-the-end, after-declared, after-remarked, at-refused, at-passed}
 use Rattle.scan.proofs.item.items.Statement.{statement}
 use Rattle.scan.proofs.item.items.Tie as tie
-use Rattle.scan.proofs.item.items.Reads as reads
-use Rattle.scan.proofs.item.items.Lts as lts
-use Rattle.scan.proofs.item.finish.Reads as finish-reads
-use Rattle.scan.proofs.item.one_item.Reads as one-item-reads
-use Rattle.scan.proofs.piece.blanks.Reads as blanks-reads
 
 abbrev Inv-loop : tie.InvT-loop
 Inv-loop s i₀ seen₀ i seen = (i ≤ length s) × Moves (FromItems false) (FromItems seen) s 0 i

@@ -3,10 +3,6 @@ use Rattle.scan.proofs.Declared.{word-is, item-told, item-refused}
 use borrow.Author.Needs.{needs}
 use Rattle.scan.proofs.item.one_item.Statement.{statement}
 use Rattle.scan.proofs.item.one_item.Tie as tie
-use Rattle.scan.proofs.item.one_item.Reads as reads
-use Rattle.scan.proofs.item.one_item.Lts as lts
-use Rattle.scan.proofs.item.open_item.Reads as open-item-reads
-use Rattle.scan.proofs.piece.word.Reads as word-reads
 
 -- src/item.rt:231:23
 slice-aggregate-word : tie.Need-slice-aggregate-word

@@ -6,13 +6,6 @@ use Rattle.scan.proofs.Declared.{declared-told, remarked-told}
 use borrow.Author.Needs.{needs}
 use Rattle.scan.proofs.item.open_item.Statement.{statement}
 use Rattle.scan.proofs.item.open_item.Tie as tie
-use Rattle.scan.proofs.item.open_item.Reads as reads
-use Rattle.scan.proofs.item.open_item.Lts as lts
-use Rattle.scan.proofs.bytes.is.Reads as is-reads
-use Rattle.scan.proofs.item.comment.Reads as comment-reads
-use Rattle.scan.proofs.item.declared.Reads as declared-reads
-use Rattle.scan.proofs.item.element.Reads as element-reads
-use Rattle.scan.proofs.item.remarked.Reads as remarked-reads
 
 -- src/item.rt:220:8
 is-requires : tie.Need-is-requires

@@ -1,16 +1,10 @@
-use native.Mathlib.Numerals.{add-one}
 use mathlib.Core.List.{[]}
+use native.Mathlib.Numerals.{add-one}
 use Rattle.scan.proofs.Told.{yes-told, no-told}
 use Rattle.scan.proofs.Declared.{opened-text, opened-group}
 use borrow.Author.Needs.{needs}
 use Rattle.scan.proofs.item.opened.Statement.{statement}
 use Rattle.scan.proofs.item.opened.Tie as tie
-use Rattle.scan.proofs.item.opened.Reads as reads
-use Rattle.scan.proofs.item.opened.Lts as lts
-use Rattle.scan.proofs.bytes.is.Reads as is-reads
-use Rattle.scan.proofs.group.group.Reads as group-reads
-use Rattle.scan.proofs.item.text.Reads as text-reads
-use Rattle.scan.proofs.piece.blanks.Reads as blanks-reads
 
 -- src/item.rt:56:23
 add-blanks : tie.Need-add-blanks

@@ -12,11 +12,6 @@ use Rattle.scan.proofs.Remarks.{remark-stuck}
 use Rattle.scan.proofs.Declared.{remark-starts, remark-two, remark-one, remark-ends}
 use Rattle.scan.proofs.item.remark.Statement.{statement}
 use Rattle.scan.proofs.item.remark.Tie as tie
-use Rattle.scan.proofs.item.remark.Reads as reads
-use Rattle.scan.proofs.item.remark.Lts as lts
-use Rattle.scan.proofs.bytes.is.Reads as is-reads
-use Rattle.scan.proofs.bytes.is_of.Reads as is-of-reads
-use Rattle.scan.proofs.piece.word.Reads as word-reads
 
 abbrev Inv-loop : tie.InvT-loop
 Inv-loop s at i₀ t4 i = (i ≤ length s) × ((seen : Bool) → Moves (FromRemark seen) (FromRemark seen) s at i)

@@ -4,8 +4,6 @@ use Rattle.scan.specs.steps.Items.{remarkedOf}
 use borrow.Author.Needs.{needs}
 use Rattle.scan.proofs.item.remarked.Statement.{statement}
 use Rattle.scan.proofs.item.remarked.Tie as tie
-use Rattle.scan.proofs.item.remarked.Reads as reads
-use Rattle.scan.proofs.item.remarked.Lts as lts
 
 -- src/item.rt:209:18
 enum-known-r : tie.Need-enum-known-r

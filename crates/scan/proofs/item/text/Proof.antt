@@ -6,11 +6,6 @@ use Rattle.scan.proofs.Declared.{text-reads}
 use borrow.Author.Needs.{needs}
 use Rattle.scan.proofs.item.text.Statement.{statement}
 use Rattle.scan.proofs.item.text.Tie as tie
-use Rattle.scan.proofs.item.text.Reads as reads
-use Rattle.scan.proofs.item.text.Lts as lts
-use Rattle.scan.proofs.item.text_end.Reads as text-end-reads
-use Rattle.scan.proofs.piece.blanks.Reads as blanks-reads
-use Rattle.scan.proofs.piece.word.Reads as word-reads
 
 -- src/item.rt:44:25
 slice-aggregate-word : tie.Need-slice-aggregate-word

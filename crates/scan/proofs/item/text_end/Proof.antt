@@ -7,9 +7,6 @@ use Rattle.scan.proofs.Declared.{text-starred, text-plain}
 use borrow.Author.Needs.{needs}
 use Rattle.scan.proofs.item.text_end.Statement.{statement}
 use Rattle.scan.proofs.item.text_end.Tie as tie
-use Rattle.scan.proofs.item.text_end.Reads as reads
-use Rattle.scan.proofs.item.text_end.Lts as lts
-use Rattle.scan.proofs.bytes.is.Reads as is-reads
 
 -- src/item.rt:27:8
 is-requires : tie.Need-is-requires

@@ -6,9 +6,6 @@ use Rattle.grammar.specs.Bytes.{isSpace, Span, stop}
 use Rattle.scan.proofs.Told.{yes-told, no-told, span-more}
 use Rattle.scan.proofs.piece.blanks.Statement.{statement}
 use Rattle.scan.proofs.piece.blanks.Tie as tie
-use Rattle.scan.proofs.piece.blanks.Reads as reads
-use Rattle.scan.proofs.piece.blanks.Lts as lts
-use Rattle.scan.proofs.bytes.is_of.Reads as is-of-reads
 
 abbrev Inv-loop : tie.InvT-loop
 Inv-loop s at i₀ i = (i ≤ length s) × Span isSpace s at i

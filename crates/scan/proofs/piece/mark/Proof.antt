@@ -5,9 +5,6 @@ use Rattle.scan.proofs.Told.{yes-told, no-told}
 use borrow.Author.Needs.{needs}
 use Rattle.scan.proofs.piece.mark.Statement.{statement}
 use Rattle.scan.proofs.piece.mark.Tie as tie
-use Rattle.scan.proofs.piece.mark.Reads as reads
-use Rattle.scan.proofs.piece.mark.Lts as lts
-use Rattle.scan.proofs.bytes.is_of.Reads as is-of-reads
 
 -- src/piece.rt:39:8
 is-of-requires : tie.Need-is-of-requires

@@ -3,10 +3,6 @@ use Rattle.scan.proofs.Told.{yes-told, no-told}
 use borrow.Author.Needs.{needs}
 use Rattle.scan.proofs.piece.name.Statement.{statement}
 use Rattle.scan.proofs.piece.name.Tie as tie
-use Rattle.scan.proofs.piece.name.Reads as reads
-use Rattle.scan.proofs.piece.name.Lts as lts
-use Rattle.scan.proofs.bytes.is_of.Reads as is-of-reads
-use Rattle.scan.proofs.piece.name_rest.Reads as name-rest-reads
 
 -- src/piece.rt:82:8
 is-of-requires : tie.Need-is-of-requires

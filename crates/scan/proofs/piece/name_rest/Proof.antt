@@ -6,9 +6,6 @@ use Rattle.grammar.specs.Bytes.{isNameByte, Span, stop}
 use Rattle.scan.proofs.Told.{yes-told, no-told, span-more}
 use Rattle.scan.proofs.piece.name_rest.Statement.{statement}
 use Rattle.scan.proofs.piece.name_rest.Tie as tie
-use Rattle.scan.proofs.piece.name_rest.Reads as reads
-use Rattle.scan.proofs.piece.name_rest.Lts as lts
-use Rattle.scan.proofs.bytes.is_of.Reads as is-of-reads
 
 abbrev Inv-loop : tie.InvT-loop
 Inv-loop s at i₀ i = (at < i) × (i ≤ at + 32) × (i ≤ length s) × Span isNameByte s (suc at) i

@@ -5,10 +5,6 @@ use Rattle.scan.proofs.Told.{yes-told, no-told}
 use borrow.Author.Needs.{needs}
 use Rattle.scan.proofs.piece.space.Statement.{statement}
 use Rattle.scan.proofs.piece.space.Tie as tie
-use Rattle.scan.proofs.piece.space.Reads as reads
-use Rattle.scan.proofs.piece.space.Lts as lts
-use Rattle.scan.proofs.bytes.is_of.Reads as is-of-reads
-use Rattle.scan.proofs.piece.blanks.Reads as blanks-reads
 
 -- src/piece.rt:29:8
 is-of-requires : tie.Need-is-of-requires

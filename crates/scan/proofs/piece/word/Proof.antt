@@ -11,9 +11,6 @@ use Rattle.scan.specs.steps.Readers.{WordRead, here}
 use Rattle.scan.proofs.Told.{yes-told, no-told, word-more}
 use Rattle.scan.proofs.piece.word.Statement.{statement}
 use Rattle.scan.proofs.piece.word.Tie as tie
-use Rattle.scan.proofs.piece.word.Reads as reads
-use Rattle.scan.proofs.piece.word.Lts as lts
-use Rattle.scan.proofs.bytes.is.Reads as is-reads
 
 abbrev Inv-loop : tie.InvT-loop
 Inv-loop s at w i₀ k₀ i k = (i ≡ at + k) × (i ≤ length s) × (k ≤ length w) × ((r : Step) → WordRead s (drop k w) i r → WordRead s w at r)

@@ -1,0 +1,3 @@
+-- A file for each notion.
+pub mod Holding
+pub mod Putting

@@ -1,0 +1,115 @@
+// From a text of the grammar to the code of its declarations. Contracts cite specs/steps.
+ghost use Prim.Native.Nat.{suc, _≤_, _<_, min};
+ghost use mathlib.Core.Path.{_≡_};
+ghost use lib.ListN.{length};
+ghost use Rattle.code.specs.steps.Holding.{Shifted, Inserts};
+ghost use Rattle.code.specs.steps.Putting.{MarkPut, AllPut};
+use content::put_content;
+use names::walk::Next;
+use names::walk::declaration_from;
+use names::walk::place_behind;
+use scan::bytes::is;
+
+mod content;
+mod particle;
+
+// The words of `?`, `*` and `+`: their kinds, 6, 5 and 7, and one operand.
+const MAYBE: u32 = 393217;
+
+const ANY: u32 = 327681;
+
+const SEVERAL: u32 = 458753;
+
+// Moves the words behind a place, up to the last one, on by one.
+fn shift(code: &mut [u32; 1280], last: usize, at: usize)
+    requires { ⌜ (length (now code) ≡ 1280) × (last < 1280) ⌝ }
+    ensures { λ r. ⌜ Shifted (now (code .entry)) (now (code .exit)) at last ⌝ }
+{
+    let mut i = last;
+    while i > at {
+        code[i] = code[i - 1];
+        i -= 1;
+    }
+}
+
+// One more, up to 1,281.
+pub fn more(size: usize) -> usize
+    ensures { λ r. ⌜ r ≡ min (suc size) 1281 ⌝ }
+{
+    if size < 1281 {
+        return size + 1;
+    }
+    1281
+}
+
+// Puts a word between the words before a place and those behind it, and answers the new size; words that do not fit are dropped.
+pub fn insert(code: &mut [u32; 1280], size: usize, at: usize, w: u32) -> usize
+    requires { ⌜ length (now code) ≡ 1280 ⌝ }
+    ensures { λ r. ⌜ Inserts (now (code .entry)) size at w (now (code .exit)) r ⌝ }
+{
+    if at >= 1280 {
+        return more(size);
+    }
+    shift(code, least(size, 1279), at);
+    code[at] = w;
+    more(size)
+}
+
+pub fn least(a: usize, b: usize) -> usize
+    ensures { λ r. ⌜ r ≡ min a b ⌝ }
+{
+    if a < b {
+        return a;
+    }
+    b
+}
+
+// Where reading ended, and how many words the code has.
+pub struct Put {
+    pub at: usize,
+    pub size: usize,
+}
+
+// A mark, put before the model whose code begins at start.
+pub fn put_mark(s: &[u8], at: usize, code: &mut [u32; 1280], size: usize, start: usize) -> Put
+    requires { ⌜ (at ≤ length (now s)) × (length (now code) ≡ 1280) ⌝ }
+    ensures { λ r. ⌜ MarkPut (now (s .entry)) at start (now (code .entry)) size (now (code .exit)) (r .at) (r .size) ⌝ }
+{
+    if is(s, at, b'?') {
+        return Put {
+            at: at + 1,
+            size: insert(code, size, start, MAYBE),
+        };
+    }
+    if is(s, at, b'*') {
+        return Put {
+            at: at + 1,
+            size: insert(code, size, start, ANY),
+        };
+    }
+    if is(s, at, b'+') {
+        return Put {
+            at: at + 1,
+            size: insert(code, size, start, SEVERAL),
+        };
+    }
+    Put { at: at, size: size }
+}
+
+// The code of a text's declarations, and its size.
+pub fn put_all(s: &[u8], places: &[u16; 256], count: usize, code: &mut [u32; 1280]) -> usize
+    requires { ⌜ length (now code) ≡ 1280 ⌝ }
+    ensures { λ r. ⌜ AllPut (now (s .entry)) (now (places .entry)) count (now (code .exit)) r ⌝ }
+{
+    let mut at = 0;
+    let mut size = 0;
+    loop {
+        match declaration_from(s, at) {
+            Next::Declared(_, body) => {
+                size = put_content(s, body, places, count, code, size);
+                at = place_behind(s, at, body);
+            }
+            Next::End => return size,
+        }
+    }
+}

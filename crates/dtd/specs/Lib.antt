@@ -1,0 +1,3 @@
+-- What reading DTD text answers.
+pub mod Answer
+pub mod steps

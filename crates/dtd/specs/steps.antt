@@ -1,0 +1,3 @@
+-- What the passes over the text and its table say.
+pub mod Last
+pub mod Stages

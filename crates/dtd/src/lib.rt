@@ -1,0 +1,119 @@
+// Reading DTD text into a table. The contract of read_dtd cites specs/Answer; those of its passes cite specs/steps.
+ghost use Prim.Native.Nat.{ℕ, _≤_};
+ghost use mathlib.Core.Path.{_≡_};
+ghost use mathlib.Core.List.{List};
+ghost use lib.ListN.{length};
+ghost use Rattle.grammar.specs.Tree.{Declaration};
+ghost use Rattle.scan.specs.Scanned.{Read};
+ghost use Rattle.model.specs.Tables.{tableOf};
+ghost use Rattle.dtd.specs.Answer.{DtdAnswer};
+ghost use Rattle.dtd.specs.steps.Last.{Last};
+ghost use Rattle.dtd.specs.steps.Stages.{Collected, Encoded, Writable};
+
+mod finish;
+
+use code::put_all;
+use finish::finish;
+use names::collect;
+use names::first_misnamed;
+use scan::Step;
+use scan::scan;
+use table::Checked;
+use table::Found;
+use write::Counts;
+use write::count;
+use write::write_rules;
+
+// Writes the table of a code, and answers for it.
+fn read_table(code: &[u32], declared: usize, counts: Counts, out: &mut [u16]) -> Checked
+    requires { ⌜ ((ds : List Declaration) × Writable ds (now code) declared (counts .types) (counts .kids)) ⌝ }
+    ensures { λ r. ⌜ ((ds : List Declaration) → Writable ds (now (code .entry)) declared (counts .types) (counts .kids)
+        → Last (tableOf 1 ds) (now (out .entry)) (r .number) (r .place) (now (out .exit))) ⌝ }
+{
+    let mut words = [0u16; 1800];
+    write_rules(code, declared, counts, &mut words);
+    let n = 8 + 3 * counts.types + counts.kids;
+    finish(&mut words[0..n], out)
+}
+
+// Counts types and child entries, and looks for a name that is declared twice or not at all.
+fn read_code(
+    text: &[u8],
+    places: &[u16; 256],
+    declared: usize,
+    code: &[u32],
+    out: &mut [u16],
+) -> Checked
+    requires { ⌜ Encoded (now text) (now places) declared (now code) ⌝ }
+    ensures { λ r. ⌜ DtdAnswer (now (text .entry)) (now (out .entry)) 1 (r .number) (r .place) (now (out .exit)) ⌝ }
+{
+    let counts = count(code);
+    if counts.types > 256 {
+        return Checked {
+            number: 21,
+            place: text.len(),
+        };
+    }
+    if counts.kids > 1024 {
+        return Checked {
+            number: 21,
+            place: text.len(),
+        };
+    }
+    match first_misnamed(text, places, declared) {
+        Found::At(k) => Checked {
+            number: 22,
+            place: k,
+        },
+        Found::Nothing => read_table(code, declared, counts, out),
+    }
+}
+
+// Puts the declarations into code.
+fn read_named(text: &[u8], places: &[u16; 256], declared: usize, out: &mut [u16]) -> Checked
+    requires { ⌜ Collected (now text) (now places) declared ⌝ }
+    ensures { λ r. ⌜ DtdAnswer (now (text .entry)) (now (out .entry)) 1 (r .number) (r .place) (now (out .exit)) ⌝ }
+{
+    let mut code = [0u32; 1280];
+    let size = put_all(text, places, declared, &mut code);
+    if size > 1280 {
+        return Checked {
+            number: 21,
+            place: text.len(),
+        };
+    }
+    read_code(text, places, declared, &code[0..size], out)
+}
+
+// Collects the declared names of a text of the grammar.
+fn read_text(text: &[u8], out: &mut [u16]) -> Checked
+    requires { ⌜ Read (now text) ⌝ }
+    ensures { λ r. ⌜ DtdAnswer (now (text .entry)) (now (out .entry)) 1 (r .number) (r .place) (now (out .exit)) ⌝ }
+{
+    let mut places = [0u16; 256];
+    let declared = collect(text, &mut places);
+    if declared > 256 {
+        return Checked {
+            number: 21,
+            place: text.len(),
+        };
+    }
+    read_named(text, &places, declared, out)
+}
+
+// Reads DTD text, whatever it holds: 0 and V where its table was written to the front of out, else the refusal's number and place.
+pub fn read_dtd(text: &[u8], out: &mut [u16]) -> Checked
+    ensures { λ r. ⌜ DtdAnswer (now (text .entry)) (now (out .entry)) 1 (r .number) (r .place) (now (out .exit)) ⌝ }
+{
+    match scan(text) {
+        Step::At(_) => read_text(text, out),
+        Step::Bad(k) => Checked {
+            number: 20,
+            place: k,
+        },
+        Step::Over(k) => Checked {
+            number: 21,
+            place: k,
+        },
+    }
+}

@@ -1,0 +1,6 @@
+-- A file for each notion.
+pub mod Walk
+pub mod Pieces
+pub mod Uses
+pub mod Names
+pub mod Wrong
