@@ -17,7 +17,7 @@ use Rattle.dtd.specs.declared.finish.Total.{Total}
 use Rattle.dtd.specs.declared.finish.Total.the-variants.{Wide, Sum}
 use Rattle.dtd.proofs.Finishing.{totalled, same-types, same-count}
 
-some-number : (c : Check) → 1 ≤ numberOf c
+pub some-number : (c : Check) → 1 ≤ numberOf c
 some-number Format = omega arith
 some-number Layout = omega arith
 some-number Kind = omega arith

@@ -4,3 +4,4 @@ pub mod Finishing
 pub mod Copying
 pub mod Lasting
 pub mod Passing
+pub mod Language
