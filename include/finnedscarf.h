@@ -1,13 +1,14 @@
 /*
- * Finnedscarf: checks a schema table, judges a policy of edits on it, completes and mends the policy, and judges a mend that somebody
- * proposes. The five calls are proved to answer as said here for every input; nothing checks this header against them but tests/store.
+ * Finnedscarf: checks a schema table, reads one from DTD text, judges a policy of edits on it, completes and mends the policy, and judges a
+ * mend that somebody proposes. The six calls are proved to answer as said here for every input; nothing checks this header against them
+ * but tests/store.
  *
  * Build the library with `rt staticlib store` and link target/staticlib/libstore.a (x86-64 Linux). For C99 or C++11, or later.
  *
  * What is lent
  *   Each run is a pointer to its first item and the number of its items. With length 0 the pointer may be any, also NULL; else it is never
- *   NULL. `out` overlaps no other run of the call. Nothing else may write to a lent run during the call. `words`, `marks` and `proposed` are
- *   only read. A call keeps nothing: no pointer, no state, no memory that must be freed.
+ *   NULL. `out` overlaps no other run of the call. Nothing else may write to a lent run during the call. `words`, `text`, `marks` and
+ *   `proposed` are only read. A call keeps nothing: no pointer, no state, no memory that must be freed.
  *
  * The table
  *   A run of 16-bit words: 8 words of header, three words for each of the E types, then the C entries of the child list.
@@ -19,6 +20,14 @@
  *   child in the child list. Stretches of children follow one another in type order with no gap. Empty and text have no child, star has
  *   one, sequence and choice have 1 to 16, all different. Types stand in any order: a child's number is below E, no type is on a cycle
  *   (below one of its own children), and every type is reached from the root by going from types to their children.
+ *
+ * The DTD text
+ *   Element declarations as in XML 1.0 (fifth edition, productions 45 to 51), comments and white space, nothing else: at most 65,536 bytes,
+ *   names in ASCII of at most 32 bytes, groups at most 16 deep, no ANY and no mixed content with names. A comment takes any byte.
+ *   The table of a text: declared types in its order, the first being the root, then made types by where their particle starts, outer
+ *   before inner, a mark's empty or star before its operand. A group of one particle, its own mark apart, is that particle. The outermost
+ *   operator is the declared type's rule (a bare name: a sequence of one); EMPTY is empty, (#PCDATA) and (#PCDATA)* are text. Each inner
+ *   group, `*`, `?` and `+` is a made type: `a?` a choice of a and a made empty type, `a+` a sequence of a and a made star of a.
  *
  * The privileges
  *   Numbered from 0, types in ascending order. Empty and sequence have none. Text has one: change the text. Star has two: insert, then
@@ -45,9 +54,15 @@ enum {
     FINNEDSCARF_FORBIDDEN = 2
 };
 
-/* The number of an answer. Checks are made in the order of these lines, 19 between 7 and 8; the place is the lowest at which the check fails, 0 where none is named. */
+/*
+ * The number of an answer. Checks are made in the order of these lines, 20 to 22 before 1, and 19 between 7 and 8; but of 20 and 21 the earlier
+ * byte decides, then the lower number. The place is the lowest at which the check fails, 0 where none is named.
+ */
 enum {
-    FINNEDSCARF_DONE = 0,             /* done; place: V for a table, else 0 */
+    FINNEDSCARF_DONE = 0,             /* done; place: V for a table that is checked or read, else 0 */
+    FINNEDSCARF_GRAMMAR = 20,         /* not DTD text; place: the first byte that cannot stand there, or the length at an early end */
+    FINNEDSCARF_LIMIT = 21,           /* ANY, mixed content with names, or a limit passed; place: byte, as said at the call */
+    FINNEDSCARF_NAME = 22,            /* a name declared before, or used and never declared; place: its first byte */
     FINNEDSCARF_FORMAT = 1,           /* under 8 words lent, or word 0 is not 1 */
     FINNEDSCARF_LAYOUT = 2,           /* words 1 to 6 are not as above, or the run lent isn't word 1 long */
     FINNEDSCARF_KIND = 3,             /* kind above 4; place: type */
@@ -60,7 +75,7 @@ enum {
     FINNEDSCARF_TOTAL = 9,            /* V is over 4096 or word 7 is not V */
     FINNEDSCARF_MARKS_LENGTH = 10,    /* marks not V long */
     FINNEDSCARF_MARK = 11,            /* a mark above 2; place: privilege */
-    FINNEDSCARF_SHORT = 12,           /* result shorter than V */
+    FINNEDSCARF_SHORT = 12,           /* result shorter than V, or than the table that is read */
     FINNEDSCARF_PROPOSED_LENGTH = 13, /* proposed marks not V long */
     FINNEDSCARF_PROPOSED_MARK = 14,   /* a proposed mark above 2; place: privilege */
     FINNEDSCARF_CHANGE = 15,          /* a change other than from 1 to 2; place: privilege */
@@ -89,6 +104,14 @@ typedef struct {
 
 /* Checks a table: 0 with V as place, or 1 to 9 or 19. */
 finnedscarf_outcome finnedscarf_check_table(const uint16_t *words, size_t words_length);
+
+/*
+ * Reads DTD text: 0 with V as place and the text's table in `out`, as many words as its word 1 says; or 20 to 22; or the table's own numbers, of
+ * which there can be 4, 7, 19, 8 and 9; or 12. 1,800 words hold every table (8 + 3 * 256 + 1024). The place of 21 is ANY's first byte, mixed
+ * content's first `|`, a name's 33rd byte, byte 65,536, the parenthesis of a group inside 16 others, or, for over 256 types or 1,024 child
+ * entries, the length. A refusal leaves `out` as it was; else its words behind the table are kept.
+ */
+finnedscarf_outcome finnedscarf_read_dtd(const uint8_t *text, size_t text_length, uint16_t *out, size_t out_length);
 
 /*
  * Judges a policy: 0 with the first breach, five zeros if it is clean, or 1 to 11 or 19. The first is that of the lowest type; there condition 2
@@ -131,6 +154,13 @@ static inline finnedscarf_outcome finnedscarf_check_table_lent(const uint16_t *w
     return finnedscarf_check_table(FINNEDSCARF_LENT(words, no_word));
 }
 
+static inline finnedscarf_outcome finnedscarf_read_dtd_lent(const uint8_t *text, size_t text_length, uint16_t *out, size_t out_length)
+{
+    uint8_t no_byte = 0;
+    uint16_t no_word = 0;
+    return finnedscarf_read_dtd(FINNEDSCARF_LENT(text, no_byte), FINNEDSCARF_LENT(out, no_word));
+}
+
 static inline finnedscarf_outcome finnedscarf_judge_policy_lent(const uint16_t *words, size_t words_length, const uint8_t *marks,
                                                                 size_t marks_length)
 {
@@ -166,6 +196,7 @@ static inline finnedscarf_outcome finnedscarf_judge_mend_lent(const uint16_t *wo
 #undef FINNEDSCARF_LENT
 
 #define finnedscarf_check_table finnedscarf_check_table_lent
+#define finnedscarf_read_dtd finnedscarf_read_dtd_lent
 #define finnedscarf_judge_policy finnedscarf_judge_policy_lent
 #define finnedscarf_complete finnedscarf_complete_lent
 #define finnedscarf_mend finnedscarf_mend_lent

@@ -7,6 +7,7 @@
  */
 #include <stdio.h>
 #include <stdlib.h>
+#include <string.h>
 
 #ifdef __cplusplus
 #include <vector>
@@ -37,6 +38,8 @@ static void pass_on(const char *name, int whole)
 extern "C" {
 #endif
 BORDER(finnedscarf_check_table, (const uint16_t *words, size_t words_length), (words, words_length), words != NULL)
+BORDER(finnedscarf_read_dtd, (const uint8_t *text, size_t text_length, uint16_t *out, size_t out_length),
+       (text, text_length, out, out_length), text && out)
 BORDER(finnedscarf_judge_policy, (const uint16_t *words, size_t words_length, const uint8_t *marks, size_t marks_length),
        (words, words_length, marks, marks_length), words && marks)
 BORDER(finnedscarf_complete,
@@ -54,14 +57,16 @@ BORDER(finnedscarf_judge_mend,
 
 typedef finnedscarf_outcome writes(const uint16_t *, size_t, const uint8_t *, size_t, uint8_t *, size_t);
 static finnedscarf_outcome (*const check_table)(const uint16_t *, size_t) = finnedscarf_check_table;
+static finnedscarf_outcome (*const read_dtd)(const uint8_t *, size_t, uint16_t *, size_t) = &finnedscarf_read_dtd;
 static finnedscarf_outcome (*const judge_policy)(const uint16_t *, size_t, const uint8_t *, size_t) = &finnedscarf_judge_policy;
 static writes *const complete = finnedscarf_complete;
 static writes *const mend = &finnedscarf_mend;
 static finnedscarf_outcome (*const judge_mend)(const uint16_t *, size_t, const uint8_t *, size_t, const uint8_t *, size_t) =
     finnedscarf_judge_mend;
 
-/* Two tables of one type, which is empty and has no privilege, or a text and has one: V is the table's place here. */
+/* Two tables of one type, which is empty and has no privilege, or a text and has one: V is the table's place here. The same as DTD text. */
 static const uint16_t tables[2][11] = {{1, 11, 1, 0, 8, 0, 11, 0, 0, 0, 0}, {1, 11, 1, 0, 8, 0, 11, 1, 1, 0, 0}};
+static const char *const texts[2] = {"<!ELEMENT a EMPTY>", "<!ELEMENT a (#PCDATA)>"};
 static const uint8_t unset[1] = {FINNEDSCARF_UNSET}, allowed[1] = {FINNEDSCARF_ALLOWED};
 
 /* The runs of a call that are empty, as a sum. The third is the result, or the proposed marks. */
@@ -151,9 +156,38 @@ static void try_call(int call, int address, size_t v, int empty, struct runs non
     }
 }
 
-static size_t try_all(struct runs none)
+/* The runs of reading that are empty, as a sum, and the number of its answer by that sum. */
+enum { TEXT = 1, TABLE = 2 };
+static const size_t read_number[4] = {0, 20, 12, 20};
+
+/* Reads a text in which some runs are empty: those that are given, which are all empty. */
+static void try_read(int address, size_t v, int empty, const uint8_t *no_text, uint16_t *no_table)
+{
+    uint16_t table[12] = {9, 9, 9, 9, 9, 9, 9, 9, 9, 9, 9, 9};
+    const uint8_t *text = empty & TEXT ? no_text : (const uint8_t *)texts[v];
+    uint16_t *out = empty & TABLE ? no_table : table;
+    size_t text_length = empty & TEXT ? 0 : strlen(texts[v]), out_length = empty & TABLE ? 0 : 12;
+    finnedscarf_outcome o =
+        address ? read_dtd(text, text_length, out, out_length) : finnedscarf_read_dtd(text, text_length, out, out_length);
+
+    size_t number = read_number[empty], place = number == 0 ? v : 0;
+    int right = table[11] == 9;
+    for (int k = 0; k < 11; k++)
+        right = right && table[k] == (number == 0 ? tables[v][k] : 9);
+    if (o.number != number || o.place != place || o.count || o.condition || o.type || o.i || o.j || o.privilege || !right) {
+        printf("tests/null: read_dtd by %s, V %zu, empty runs %d: number %zu, place %zu, where %zu, %zu is right%s\n",
+               address ? "address" : "name", v, empty, o.number, o.place, number, place, right ? "" : ", and another result");
+        exit(1);
+    }
+}
+
+static size_t try_all(struct runs none, uint16_t *no_table)
 {
     size_t tried = 0;
+    for (int address = 0; address < 2; address++)
+        for (size_t v = 0; v < 2; v++)
+            for (int empty = 0; empty < 4; empty++, tried++)
+                try_read(address, v, empty, none.marks, no_table);
     for (int call = 0; call < CALLS; call++)
         for (int address = 0; address < 2; address++)
             for (size_t v = 0; v < 2; v++)
@@ -165,12 +199,12 @@ static size_t try_all(struct runs none)
 int main(void)
 {
     struct runs null = {NULL, NULL, NULL, 0, 0, 0};
-    size_t tried = try_all(null);
+    size_t tried = try_all(null, NULL);
 #ifdef __cplusplus
-    std::vector<uint16_t> words;
+    std::vector<uint16_t> words, table;
     std::vector<uint8_t> marks, third;
     struct runs vectors = {words.data(), marks.data(), third.data(), 0, 0, 0};
-    tried += try_all(vectors);
+    tried += try_all(vectors, table.data());
 #endif
     if (passed_on != tried) {
         printf("tests/null: %zu calls made, and %zu seen on their way to the library\n", tried, passed_on);

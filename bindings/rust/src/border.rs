@@ -22,6 +22,10 @@ pub fn check_table(words: &[u16]) -> Outcome {
     unsafe { finnedscarf_check_table(words.as_ptr(), words.len()) }
 }
 
+pub fn read_dtd(text: &[u8], out: &mut [u16]) -> Outcome {
+    unsafe { finnedscarf_read_dtd(text.as_ptr(), text.len(), out.as_mut_ptr(), out.len()) }
+}
+
 pub fn judge_policy(words: &[u16], marks: &[u8]) -> Outcome {
     unsafe { finnedscarf_judge_policy(words.as_ptr(), words.len(), marks.as_ptr(), marks.len()) }
 }
@@ -43,6 +47,7 @@ pub fn judge_mend(words: &[u16], marks: &[u8], proposed: &[u8]) -> Outcome {
 #[link(name = "store", kind = "static")]
 extern "C" {
     fn finnedscarf_check_table(words: *const u16, words_length: usize) -> Outcome;
+    fn finnedscarf_read_dtd(text: *const u8, text_length: usize, out: *mut u16, out_length: usize) -> Outcome;
     fn finnedscarf_judge_policy(words: *const u16, words_length: usize, marks: *const u8, marks_length: usize) -> Outcome;
     fn finnedscarf_complete(
         words: *const u16,

@@ -1,9 +1,10 @@
-//! Safe calls of Finnedscarf, the proved policy checker: checks a schema table, judges a policy of edits on it, completes and mends the
-//! policy, and judges a mend that somebody proposes.
+//! Safe calls of Finnedscarf, the proved policy checker: checks a schema table, reads one from DTD text, judges a policy of edits on it,
+//! completes and mends the policy, and judges a mend that somebody proposes.
 //!
 //! `words` is the schema table and `marks` the policy, one byte for each of its V privileges: [`UNSET`], [`ALLOWED`] or [`FORBIDDEN`].
-//! `include/finnedscarf.h` has the layout of the table and the numbers of its privileges. Every call takes every input: what is no table
-//! or no policy is a [`Refusal`], and a refused call leaves its `out` as it was. No call allocates, and none keeps anything.
+//! `include/finnedscarf.h` has the layout of the table, the table of a DTD text and the numbers of the privileges. Every call takes every
+//! input: what is no table, no DTD text or no policy is a [`Refusal`], and a refused call leaves its `out` as it was. No call allocates,
+//! and none keeps anything.
 //!
 //! ```
 //! use finnedscarf::{judge_policy, ALLOWED, FORBIDDEN};
@@ -23,6 +24,9 @@ mod border;
 use border::Outcome;
 use std::error::Error;
 use std::fmt;
+
+/// As many words as the table of a DTD text can have.
+pub const MOST_WORDS: usize = 8 + 3 * 256 + 1024;
 
 /// The mark of a privilege that the policy leaves open.
 pub const UNSET: u8 = 0;
@@ -87,9 +91,9 @@ impl fmt::Display for Breach {
 /// ```
 #[derive(Clone, Copy, Debug, PartialEq, Eq)]
 pub struct Refusal {
-    /// 1 to 16 or 19, as in `include/finnedscarf.h`.
+    /// 1 to 16 or 19 to 22, as in `include/finnedscarf.h`.
     pub number: usize,
-    /// The lowest type or privilege at which the check of this number fails; 0 where the check has no places.
+    /// The lowest type, privilege or byte at which the check of this number fails; 0 where the check has no places.
     pub place: usize,
     /// The first breach, with number 16 and no other.
     pub breach: Option<Breach>,
@@ -111,11 +115,17 @@ impl fmt::Display for Refusal {
             9 => write!(f, "over 4,096 privileges, or word 7 is not their number"),
             10 => write!(f, "not one mark for each privilege"),
             11 => write!(f, "a mark above 2 at privilege {place}"),
-            12 => write!(f, "result shorter than the number of privileges"),
+            12 => write!(f, "result shorter than the number of privileges, or than the table that is read"),
             13 => write!(f, "not one proposed mark for each privilege"),
             14 => write!(f, "a proposed mark above 2 at privilege {place}"),
             15 => write!(f, "a change other than from 1 to 2 at privilege {place}"),
             19 => write!(f, "type {place} is on a cycle: it is below one of its own children"),
+            20 => write!(f, "not DTD text: byte {place} cannot stand there (one past the last: it ends too early)"),
+            21 => write!(
+                f,
+                "ANY, mixed content with names, or a limit passed at byte {place} (one past the last: too many types or child entries)"
+            ),
+            22 => write!(f, "the name at byte {place} was declared before, or is used and never declared"),
             _ => write!(f, "a breach"),
         }?;
         match breach {
@@ -130,6 +140,25 @@ impl Error for Refusal {}
 /// Checks a table, and gives its number of privileges V. Refused with 1 to 9 and 19.
 pub fn check_table(words: &[u16]) -> Result<usize, Refusal> {
     border::check_table(words).done().map(|done| done.place)
+}
+
+/// Reads DTD text: writes its table into `out`, as many words as word 1 then says, and gives the table's number of privileges V. The rest of
+/// `out` is kept; [`MOST_WORDS`] are enough. Refused with 20 (not the grammar), 21 (ANY, mixed content with names, or a limit passed) and 22
+/// (a name declared before, or used and never declared), with the table's own numbers, of which there can be 4, 7, 19, 8 and 9, and with 12.
+///
+/// ```
+/// use finnedscarf::{read_dtd, MOST_WORDS};
+///
+/// let mut out = [0; MOST_WORDS];
+/// assert_eq!(read_dtd(b"<!ELEMENT names (name)*> <!ELEMENT name (#PCDATA)>", &mut out)?, 3);
+/// assert_eq!(out[..out[1] as usize], [1, 15, 2, 0, 8, 1, 14, 3, 4, 1, 0, 1, 0, 1, 1]);
+///
+/// let refusal = read_dtd(b"<!ELEMENT names (name)*>", &mut out).unwrap_err();
+/// assert_eq!((refusal.number, refusal.place), (22, 17));
+/// # Ok::<(), finnedscarf::Refusal>(())
+/// ```
+pub fn read_dtd(text: &[u8], out: &mut [u16]) -> Result<usize, Refusal> {
+    border::read_dtd(text, out).done().map(|done| done.place)
 }
 
 /// Judges a policy, and gives its first breach, or `None` if it is clean. Refused with 1 to 11 and 19.

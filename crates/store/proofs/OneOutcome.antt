@@ -8,11 +8,12 @@ use Rattle.verdict.specs.declared.Answer.{Answer}
 use Rattle.verdict.proofs.Judged.{refusal-one, judge-one}
 use Rattle.completion.specs.Answers.{CompleteAnswer}
 use Rattle.completion.proofs.Completing.{complete-one}
+use Rattle.dtd.proofs.OneAnswer.{one-answer}
 use Rattle.mending.specs.Answers.{MendAnswer}
 use Rattle.proposing.specs.Answers.{ProposeAnswer}
 use Rattle.mending.proofs.Answered.{mend-one}
 use Rattle.proposing.proofs.Answered.{propose-one}
-use Rattle.store.specs.Outcomes.{outcomeOf, CheckAnswer, Told}
+use Rattle.store.specs.Outcomes.{outcomeOf, CheckAnswer, ReadAnswer, Told}
 use Rattle.store.specs.declared.Outcome.{Outcome}
 
 -- one answer, one outcome
@@ -24,6 +25,12 @@ check-one c d = c .rest ∙ refusal-one (answer-one (c .table) (d .table)) ∙ s
 
 pub check-outcome : {ws : List ℕ} {o p : Outcome} → Told (CheckAnswer ws) o → Told (CheckAnswer ws) p → o ≡ p
 check-outcome s t = told-one s t (check-one (s .promised) (t .promised))
+
+pub read-outcome : {text out x y : List ℕ} {o p : Outcome} → Told (λ a. ReadAnswer text out a x) o → Told (λ a. ReadAnswer text out a y) p
+    → (o ≡ p) × (x ≡ y)
+read-outcome s t =
+    let one = one-answer (s .promised .read) (t .promised .read) in
+    (told-one s t (s .promised .rest ∙ refusal-one (one .number, one .place) ∙ sym (t .promised .rest)), one .after)
 
 module _ {ws marks : List ℕ} {o p : Outcome} where
   pub judge-outcome : Told (JudgeAnswer ws marks) o → Told (JudgeAnswer ws marks) p → o ≡ p

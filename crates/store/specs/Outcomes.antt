@@ -1,9 +1,10 @@
--- What a call answers to a program in another language: eight numbers (document 01, "Numbers of the answers and their order"). Assumes
--- nothing.
+-- What a call answers to a program in another language: eight numbers (document 01, "Numbers of the answers and their order"; document 02, order
+-- 3). Assumes nothing.
 use Prim.Native.Nat.{ℕ}
 use mathlib.Core.Path.{_≡_}
 use mathlib.Core.List.{List}
 use Rattle.table.specs.Check.{TableAnswer}
+use Rattle.dtd.specs.Answer.{DtdAnswer}
 use Rattle.verdict.specs.Breaches.{conditionNumber}
 use Rattle.verdict.specs.Answers.{refusal}
 use Rattle.verdict.specs.declared.Answer.{Answer}
@@ -25,6 +26,11 @@ outcomeOf a = record {
 -- checking a table as an answer: its number and place, the rest 0
 pub record CheckAnswer (ws : List ℕ) (a : Answer) : Type 0 where
   pub table : TableAnswer ws (a .number) (a .place)
+  pub rest : a ≡ refusal (a .number) (a .place)
+
+-- reading DTD text into a table of format 1 as an answer: its number and place, the rest 0
+pub record ReadAnswer (text out : List ℕ) (a : Answer) (after : List ℕ) : Type 0 where
+  pub read : DtdAnswer text out 1 (a .number) (a .place) after
   pub rest : a ≡ refusal (a .number) (a .place)
 
 -- the outcome is that of an answer as promised

@@ -1,12 +1,13 @@
-// The five calls for programs in C and Rust: runs and lengths in, eight numbers out. include/finnedscarf.h declares them.
+// The six calls for programs in C and Rust: runs and lengths in, eight numbers out. include/finnedscarf.h declares them.
 // Contracts cite specs/Outcomes for the eight numbers, and the definitions of the crate that makes the call for the answer.
 ghost use mathlib.Core.Path.{_≡_};
 ghost use Rattle.verdict.specs.Answers.{JudgeAnswer};
 ghost use Rattle.completion.specs.Answers.{CompleteAnswer};
 ghost use Rattle.mending.specs.Answers.{MendAnswer};
 ghost use Rattle.proposing.specs.Answers.{ProposeAnswer};
-ghost use Rattle.store.specs.Outcomes.{outcomeOf, CheckAnswer, Told};
+ghost use Rattle.store.specs.Outcomes.{outcomeOf, CheckAnswer, ReadAnswer, Told};
 use completion::complete;
+use dtd::read_dtd;
 use mending::mend;
 use proposing::judge_mend;
 use table::check_table;
@@ -52,6 +53,16 @@ pub extern "C" fn finnedscarf_check_table(words: &[u16]) -> Outcome
 {
     let checked = check_table(words);
     outcome_of(refused(checked.number, checked.place))
+}
+
+// Reads DTD text: refuses with 20 to 22, 4, 7, 19, 8, 9 or 12 and leaves the result as it was, or answers 0 and V, writes the text's table into it and
+// keeps its rest. The other six numbers are 0.
+#[no_mangle]
+pub extern "C" fn finnedscarf_read_dtd(text: &[u8], out: &mut [u16]) -> Outcome
+    ensures { λ r. ⌜ Told (λ a. ReadAnswer (now (text .entry)) (now (out .entry)) a (now (out .exit))) r ⌝ }
+{
+    let read = read_dtd(text, out);
+    outcome_of(refused(read.number, read.place))
 }
 
 // Judges a policy: refuses with 1 to 11 or 19, or answers 0 with the first breach, five zeros where there is none.
