@@ -30,10 +30,11 @@ pub fn judge_mend(words: &[u16], marks: &[u8], proposed: &[u8]) -> Outcome {
     outcome_of(mending::judge_mend(words, marks, proposed))
 }
 
-/// The cases of a stream (second/README.md has its form).
+/// The policies of a stream of cases (second/README.md has its form).
 pub fn cases_of(stream: &[u8]) -> Vec<Case> {
     let policy = |case| match case {
-        cases::Case::Policy(case) => case,
+        cases::Case::Policy(case) => Some(case),
+        cases::Case::Dtd(_) => None,
     };
-    cases::read_cases(stream).into_iter().map(policy).collect()
+    cases::read_cases(stream).into_iter().filter_map(policy).collect()
 }

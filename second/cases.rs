@@ -1,18 +1,21 @@
 // Cases as a stream, and what the calls answer to them: a case is its kind, one byte, and then the runs of that kind.
 
 use crate::calls::{Call, Told};
+use crate::dtd_case::{self, DtdCase};
 use crate::fail;
 use crate::policy_case::{self, PolicyCase};
 use crate::stream::take;
 
 pub enum Case {
     Policy(PolicyCase),
+    Dtd(DtdCase),
 }
 
 impl Case {
     fn read(stream: &mut &[u8]) -> Case {
         match take(stream, 1)[0] {
             policy_case::KIND => Case::Policy(PolicyCase::read(stream)),
+            dtd_case::KIND => Case::Dtd(DtdCase::read(stream)),
             kind => fail(&format!("there is no kind {}", kind)),
         }
     }
@@ -23,13 +26,18 @@ impl Case {
                 stream.push(policy_case::KIND);
                 case.write(stream);
             }
+            Case::Dtd(case) => {
+                stream.push(dtd_case::KIND);
+                case.write(stream);
+            }
         }
     }
 
-    /// The case as a file for the program judge.
-    pub fn file(&self) -> Vec<u8> {
+    /// The case as a file for the program judge, where it has a policy.
+    pub fn file(&self) -> Option<Vec<u8>> {
         match self {
-            Case::Policy(case) => case.file(),
+            Case::Policy(case) => Some(case.file()),
+            Case::Dtd(_) => None,
         }
     }
 
@@ -37,6 +45,7 @@ impl Case {
     pub fn tell(&self) -> Vec<(&'static str, Told)> {
         match self {
             Case::Policy(case) => tell(&policy_case::CALLS, case),
+            Case::Dtd(case) => tell(&dtd_case::CALLS, case),
         }
     }
 }

@@ -3,11 +3,12 @@
 use crate::answers::Answer;
 use crate::calls::{Call, POLICY, TABLE};
 use crate::cases::read_cases;
+use crate::dtd_case;
 use crate::policy_case;
 use std::collections::BTreeMap;
 
 /// The numbers in the order of the checks.
-const NUMBERS: &[&[usize]] = &[TABLE, POLICY, &[12, 13, 14, 15, 16]];
+const NUMBERS: &[&[usize]] = &[&[20, 21, 22], TABLE, POLICY, &[12, 13, 14, 15, 16]];
 
 const CONDITIONS: [usize; 3] = [1, 2, 3];
 
@@ -92,7 +93,7 @@ pub struct Counts(Vec<Row>);
 
 impl Counts {
     pub fn new() -> Counts {
-        Counts(policy_case::CALLS.iter().map(Row::of).collect())
+        Counts(policy_case::CALLS.iter().map(Row::of).chain(dtd_case::CALLS.iter().map(Row::of)).collect())
     }
 
     pub fn add(&mut self, name: &str, answer: &Answer) {
@@ -104,8 +105,10 @@ impl Counts {
         self.0.iter().map(|row| row.numbers.total()).sum()
     }
 
+    /// The rows, and the fewest of those calls that were made.
     pub fn text(&self) -> String {
-        let fewest = self.0.iter().map(Row::fewest).min().unwrap_or(0);
+        let made = self.0.iter().filter(|row| row.numbers.total() > 0);
+        let fewest = made.map(Row::fewest).min().unwrap_or(0);
         table_of(&self.0, NUMBERS) + &format!("fewest of what a call can give: {}\n", fewest)
     }
 }

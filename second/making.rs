@@ -58,18 +58,23 @@ fn any_case(r: &mut Random) -> PolicyCase {
     case_of(r, &schema)
 }
 
-/// Case k: in its turn a chain or a cycle of 256 types or a full table, else what chance gives.
-fn make_case(r: &mut Random, k: usize) -> Case {
-    Case::Policy(match k % 480 {
+/// Policy k: in its turn a chain or a cycle of 256 types or a full table, else what chance gives.
+fn make_policy(r: &mut Random, k: usize) -> PolicyCase {
+    match k % 480 {
         40 | 280 => chain_case(r, true),
         160 | 400 => chain_case(r, false),
         80 | 200 | 320 | 440 => cycle_case(r),
         240 => full_case(r),
         _ => any_case(r),
-    })
+    }
 }
 
-pub fn cases(seed: u64, count: usize) -> impl Iterator<Item = Case> {
+fn policies(seed: u64, count: usize) -> impl Iterator<Item = PolicyCase> {
     let mut r = Random(seed);
-    (0..count).map(move |k| make_case(&mut r, k))
+    (0..count).map(move |k| make_policy(&mut r, k))
+}
+
+/// So many policies, and then so many DTD texts.
+pub fn cases(seed: u64, count: usize, dtds: usize) -> impl Iterator<Item = Case> {
+    policies(seed, count).map(Case::Policy).chain(dtds::cases(seed, dtds).map(Case::Dtd))
 }

@@ -32,7 +32,7 @@ use self_check::self_check;
 use std::io::{Read, Write};
 use table::{HEADER, MOST_ENTRIES, MOST_TYPES, RECORD};
 
-const USAGE: &str = "modes: judge | cases SEED COUNT | answers | count | files FOLDER \
+const USAGE: &str = "modes: judge | cases SEED COUNT DTDS | answers | count | files FOLDER \
     | random SEED COUNT FILE... | reports | count files | dtd | count dtds SEED COUNT \
     | documents SEED COUNT FOLDER | texts SEED COUNT FOLDER | self";
 
@@ -49,8 +49,9 @@ fn input() -> Vec<u8> {
 
 fn write_files(folder: &str, cases: &[Case]) {
     for (k, case) in cases.iter().enumerate() {
-        let path = format!("{}/{}", folder, k);
-        std::fs::write(&path, case.file()).unwrap_or_else(|_| fail("cannot write a file"));
+        if let Some(file) = case.file() {
+            write_file(&format!("{}/{}", folder, k), &file);
+        }
     }
 }
 
@@ -107,7 +108,9 @@ pub fn main() {
     let arguments: Vec<&str> = arguments.iter().map(String::as_str).collect();
     let output = match arguments[..] {
         ["judge"] => judge(&input()).into_bytes(),
-        ["cases", seed, count] => write_cases(making::cases(number(seed), number(count) as usize)),
+        ["cases", seed, count, dtds] => {
+            write_cases(making::cases(number(seed), number(count) as usize, number(dtds) as usize))
+        }
         ["answers"] => answers(&input()).into_bytes(),
         ["count"] => count(&input()).into_bytes(),
         ["files", folder] => {

@@ -8,6 +8,7 @@ use second::answers::{Answer, Breach, Outcome};
 use second::calls::{Call, Told};
 use second::cases::{write_cases, Case};
 use second::counting::Counts;
+use second::dtd_case::{self, DtdCase};
 use second::making;
 use second::policy_case::{self, PolicyCase};
 use std::hint::black_box;
@@ -31,6 +32,10 @@ const POLICY: [fn(&PolicyCase) -> Told; policy_case::CALLS.len()] = [
     |case| case.writing(|words, marks, out| outcome_of(border::mend(words, marks, out))),
     |case| Told::reading(outcome_of(border::judge_mend(&case.words, &case.marks, &case.proposed))),
 ];
+
+/// The same on cases of kind 1.
+const DTD: [fn(&DtdCase) -> Told; dtd_case::CALLS.len()] =
+    [|case| case.writing(|text, out| outcome_of(border::read_dtd(text, out)))];
 
 /// Makes each call on a case by both and counts the answers, up to the first difference.
 fn compare<C: Clone + PartialEq>(
@@ -56,6 +61,7 @@ fn compare<C: Clone + PartialEq>(
 fn compare_case(case: &Case, counts: &mut Counts) -> Result<(), String> {
     match case {
         Case::Policy(case) => compare(&policy_case::CALLS, &POLICY, case, counts),
+        Case::Dtd(case) => compare(&dtd_case::CALLS, &DTD, case, counts),
     }
 }
 
@@ -78,7 +84,7 @@ fn keep(case: Case, path: &str) -> String {
 
 fn soak(seed: u64, count: usize, folder: &str) {
     let mut counts = Counts::new();
-    for (k, case) in making::cases(seed, count).enumerate() {
+    for (k, case) in making::cases(seed, count, 0).enumerate() {
         if let Err(difference) = compare_case(&case, &mut counts) {
             let kept = keep(case, &format!("{}/differs.{}.{}", folder, seed, k));
             let alike = counts.total();

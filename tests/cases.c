@@ -8,12 +8,15 @@
 
 #include "finnedscarf.h"
 
-enum { MOST = 65536 };
+enum { MOST = 66560 };
 
 static const char *number_text(size_t number)
 {
     switch (number) {
     case FINNEDSCARF_DONE: return "0";
+    case FINNEDSCARF_GRAMMAR: return "20";
+    case FINNEDSCARF_LIMIT: return "21";
+    case FINNEDSCARF_NAME: return "22";
     case FINNEDSCARF_FORMAT: return "1";
     case FINNEDSCARF_LAYOUT: return "2";
     case FINNEDSCARF_KIND: return "3";
@@ -150,11 +153,27 @@ static void run_policy(size_t number)
     put_line(number, "propose", finnedscarf_judge_mend(words, w, marks, m, proposed, p));
 }
 
+/* The call on a case of kind 1. The result is printed as bytes, the low one of each word first. */
+static void run_dtd(size_t number)
+{
+    static uint8_t text[MOST];
+    static uint16_t out[MOST];
+    size_t t = read_bytes(text);
+    size_t n = read_words(out);
+
+    put_outcome(number, "dtd", finnedscarf_read_dtd(text, t, out, n));
+    putchar(' ');
+    for (size_t k = 0; k < n; k++)
+        printf("%02x%02x", out[k] % 256, out[k] / 256);
+    putchar('\n');
+}
+
 int main(void)
 {
     for (size_t number = 0; more(); number++) {
         switch (next_byte()) {
         case 0: run_policy(number); break;
+        case 1: run_dtd(number); break;
         default: exit(2);
         }
     }

@@ -1,7 +1,7 @@
 //! Makes the calls on a stream of cases through the safe wrapper and prints a line for each (second/README.md has the form of both).
 //! Conditions and marks are printed by the wrapper's names for them, so that each name is held to its value.
 
-use finnedscarf::{check_table, complete, judge_mend, judge_policy, mend, Breach, Condition, Refusal, ALLOWED, FORBIDDEN, UNSET};
+use finnedscarf::{check_table, complete, judge_mend, judge_policy, mend, read_dtd, Breach, Condition, Refusal, ALLOWED, FORBIDDEN, UNSET};
 use std::io::{self, BufWriter, Read, Write};
 
 struct Stream(Vec<u8>, usize);
@@ -101,6 +101,15 @@ fn policy_lines(stream: &mut Stream) -> Vec<String> {
     ]
 }
 
+/// The call on a case of kind 1. The result is printed as bytes, the low one of each word first.
+fn dtd_lines(stream: &mut Stream) -> Vec<String> {
+    let text = stream.bytes();
+    let mut out = stream.words();
+    let answer = read_dtd(&text, &mut out).map(|place| Done { place, ..Done::default() });
+    let run: String = out.iter().flat_map(|word| word.to_le_bytes()).map(|byte| format!("{byte:02x}")).collect();
+    vec![line("dtd", answer) + " " + &run]
+}
+
 fn main() -> io::Result<()> {
     let mut stream = Stream(Vec::new(), 0);
     io::stdin().read_to_end(&mut stream.0)?;
@@ -109,6 +118,7 @@ fn main() -> io::Result<()> {
     while !stream.is_at_end() {
         let lines = match stream.byte() {
             0 => policy_lines(&mut stream),
+            1 => dtd_lines(&mut stream),
             kind => panic!("there is no kind {kind}"),
         };
         for line in lines {

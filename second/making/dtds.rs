@@ -15,7 +15,7 @@ use super::chance::Random;
 use crate::dtd::declared;
 use crate::dtd_case::DtdCase;
 use crate::making::schemas::encode;
-use aimed::{ways, Aimed, Way};
+use aimed::{large_ways, ways, ways_by_bytes, ways_by_whole, Aimed, Way};
 use damage::damaged;
 use pieces::{pieces, text_of, Piece};
 use sound::sound;
@@ -117,5 +117,24 @@ pub fn known_cases(seed: u64, count: usize) -> impl Iterator<Item = (DtdCase, Kn
     (0..count).map(move |k| match k % 2 {
         0 => any_case(&mut r),
         _ => aimed_case(&mut r, &ways, k / 2),
+    })
+}
+
+/// Cases for a stream: of seven two are made for an answer that a few bytes give, and two for a limit or an answer of the table, all
+/// ways in turn; the last of 119 is a large one.
+pub fn cases(seed: u64, count: usize) -> impl Iterator<Item = DtdCase> {
+    let mut r = Random(seed);
+    let (by_bytes, by_whole, large) = (ways_by_bytes(), ways_by_whole(), large_ways());
+    (0..count).map(move |k| {
+        let turn = 2 * (k / 7) + k % 7 / 3;
+        let (case, _) = match k % 119 {
+            118 => aimed_case(&mut r, &large, k / 119),
+            n => match n % 7 {
+                1 | 4 => aimed_case(&mut r, &by_bytes, turn),
+                2 | 5 => aimed_case(&mut r, &by_whole, turn),
+                _ => any_case(&mut r),
+            },
+        };
+        case
     })
 }

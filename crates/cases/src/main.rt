@@ -2,6 +2,7 @@
 ghost use Prim.Native.Nat.{_≤_};
 ghost use lib.ListN.{length};
 use completion::complete;
+use dtd::read_dtd;
 use mending::mend;
 use proposing::judge_mend;
 use stream::next_kind;
@@ -50,6 +51,22 @@ fn put_run(run: &[u8]) {
     }
 }
 
+// A word, low byte first.
+fn put_word(word: u16) {
+    io::print_hex(1, (word % 256) as u64, 2);
+    io::print_hex(1, (word / 256) as u64, 2);
+}
+
+// A run of words, four hexadecimal digits a word.
+fn put_words(run: &[u16]) {
+    io::write_all(1, b" ");
+    let mut k = 0;
+    while k < run.len() {
+        put_word(run[k]);
+        k += 1;
+    }
+}
+
 // The line of a call that only reads.
 fn put_line(case: usize, call: &[u8], answer: Answer) {
     put_answer(case, call, answer);
@@ -65,6 +82,11 @@ fn put_written(case: usize, call: &[u8], answer: Answer, out: &[u8]) {
 
 fn checked(words: &[u16]) -> Answer {
     let told = check_table(words);
+    refused(told.number, told.place)
+}
+
+fn read(text: &[u8], out: &mut [u16]) -> Answer {
+    let told = read_dtd(text, out);
     refused(told.number, told.place)
 }
 
@@ -123,6 +145,22 @@ fn run_policy(case: usize) {
     );
 }
 
+// The call on a case of kind 1.
+fn put_dtd(case: usize, text: &[u8], out: &mut [u16]) {
+    put_answer(case, b" dtd", read(text, out));
+    put_words(out);
+    io::write_all(1, b"\n");
+}
+
+// Kind 1: a DTD text, a result as lent.
+fn run_dtd(case: usize) {
+    let mut text = [0u8; 66560];
+    let n = read_bytes(next_length(), &mut text);
+    let mut out = [0u16; 2048];
+    let w = read_words(next_length(), &mut out);
+    put_dtd(case, &text[0..n], &mut out[0..w]);
+}
+
 // Makes the calls on the next case, if there is one of a known kind.
 fn run_case(case: usize) -> bool {
     let found = next_kind();
@@ -131,6 +169,7 @@ fn run_case(case: usize) -> bool {
     };
     match kind {
         0 => run_policy(case),
+        1 => run_dtd(case),
         _ => return false,
     }
     true

@@ -2,7 +2,7 @@
 
 use super::cuts::{cut, foreign, no_declaration, wrong};
 use super::likes::{like, LIKES};
-use super::limits::LIMITS;
+use super::limits::{LARGE, LIMITS};
 use super::pieces::Token;
 use super::tables::TABLES;
 use crate::making::chance::Random;
@@ -73,8 +73,8 @@ const IN_DECLARATION: [Token; 10] = [
 
 const BETWEEN: [Token; 3] = [Token::Space, Token::Comment, Token::End];
 
-/// All ways, in turn.
-pub fn ways() -> Vec<Way> {
+/// The ways to an answer that a few bytes give.
+pub fn ways_by_bytes() -> Vec<Way> {
     let within = || KEYWORDS.into_iter().flat_map(|(token, length)| (1..length).map(move |at| (token, at)));
     let mut ways: Vec<Way> = Vec::new();
     ways.extend(within().map(|(token, at)| Way::Cut(token, at as isize)));
@@ -83,8 +83,24 @@ pub fn ways() -> Vec<Way> {
     ways.extend(within().map(|(token, at)| Way::Wrong(token, at)));
     ways.push(Way::Wrong(Token::Comment, 3));
     ways.extend(IN_DECLARATION.iter().chain(&BETWEEN).map(|&token| Way::Foreign(token)));
-    ways.push(Way::Made("no declaration", no_declaration));
     ways.extend(LIKES.map(|(number, text)| Way::Like(number, text)));
-    ways.extend(LIMITS.iter().chain(TABLES).map(|&(name, make)| Way::Made(name, make)));
     ways
+}
+
+fn made(makers: &[(&'static str, Maker)]) -> Vec<Way> {
+    makers.iter().map(|&(name, make)| Way::Made(name, make)).collect()
+}
+
+/// The ways to the limits and to the table's answers, but for those of long texts.
+pub fn ways_by_whole() -> Vec<Way> {
+    made(&[&[("no declaration", no_declaration as Maker)], LIMITS, TABLES].concat())
+}
+
+pub fn large_ways() -> Vec<Way> {
+    made(LARGE)
+}
+
+/// All ways, in turn.
+pub fn ways() -> Vec<Way> {
+    ways_by_bytes().into_iter().chain(ways_by_whole()).chain(large_ways()).collect()
 }

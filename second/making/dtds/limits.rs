@@ -2,7 +2,7 @@
 
 use super::aimed::{Aimed, Maker};
 use super::cuts::foreign_byte;
-use super::likes::{before, behind};
+use super::likes::{before, behind, like, LIKES};
 use super::pieces::{pieces, start_of, text_of, Piece, Token};
 use super::sound::{childless, distinct, name_of, sound, MARKS};
 use super::written::{names, Content, Dtd, Particle};
@@ -11,21 +11,31 @@ use crate::making::chance::Random;
 use crate::table::{MOST_CHILDREN, MOST_ENTRIES, MOST_TYPES};
 
 pub const LIMITS: &[(&str, Maker)] = &[
+    ("21 for ANY", any),
+    ("21 for mixed content", mixed),
     ("a long name declared", long_name_declared),
     ("a long name used", long_name_used),
     ("names as long as may be", full_names),
     ("too deep", too_deep),
     ("as deep as may be", full_depth),
-    ("over 65,536 bytes", too_long),
-    ("not the grammar at byte 65,536", wrong_at_border),
-    ("65,536 bytes or nearly, or more and wrong before", near_border),
-    ("over 256 types declared", many_declared),
-    ("one name declared 257 times", many_times),
     ("over 256 types made", many_made),
     ("256 types", full_types),
     ("over 1,024 entries", many_entries),
-    ("1,024 entries", full_entries),
     ("an early end and over 256 types", many_and_early_end),
+];
+
+/// Those whose texts are long.
+pub const LARGE: &[(&str, Maker)] = &[
+    ("65,536 bytes", full_length),
+    ("over 65,536 bytes", too_long),
+    ("not the grammar at byte 65,536", wrong_at_border),
+    ("ANY just before byte 65,536", any_at_border),
+    ("over 65,536 bytes, and not the grammar before", wrong_before_border),
+    ("one group of over 16,000 names", crowded),
+    ("groups over 32,000 deep", very_deep),
+    ("over 256 types declared", many_declared),
+    ("one name declared 257 times", many_times),
+    ("1,024 entries", full_entries),
 ];
 
 fn over(text: Vec<u8>, place: usize) -> Aimed {
@@ -44,6 +54,21 @@ fn done(text: Vec<u8>) -> Aimed {
 
 fn written(r: &mut Random, dtd: &Dtd) -> Vec<u8> {
     text_of(&pieces(r, dtd))
+}
+
+/// One of the texts like which a text is over, with this in it.
+fn like_one_with(r: &mut Random, what: &str) -> Aimed {
+    let texts = LIKES.into_iter().filter(|(number, text)| *number == 21 && text.contains(what));
+    let (number, text) = r.pick(&Vec::from_iter(texts));
+    like(r, number, text)
+}
+
+fn any(r: &mut Random) -> Aimed {
+    like_one_with(r, "ANY")
+}
+
+fn mixed(r: &mut Random) -> Aimed {
+    like_one_with(r, "#PCDATA")
 }
 
 /// What stands before, a long name, and what follows.
@@ -115,6 +140,10 @@ fn long(r: &mut Random, length: usize) -> Vec<u8> {
     text_of(&pieces)
 }
 
+fn full_length(r: &mut Random) -> Aimed {
+    done(long(r, MOST_BYTES))
+}
+
 fn too_long(r: &mut Random) -> Aimed {
     let length = MOST_BYTES + r.pick(&[1, 1, 1, 2, 50]);
     over(long(r, length), MOST_BYTES)
@@ -169,16 +198,6 @@ fn very_deep(r: &mut Random) -> Aimed {
     let closed = [vec![b'a'], vec![b')'; depth], vec![b'>']].concat();
     let rest = if r.one_in(2) { closed } else { Vec::new() };
     over([text, vec![b'('; depth], rest].concat(), place)
-}
-
-fn near_border(r: &mut Random) -> Aimed {
-    match r.below(8) {
-        0 => any_at_border(r),
-        1 => wrong_before_border(r),
-        2 => crowded(r),
-        3 => very_deep(r),
-        _ => done(long(r, MOST_BYTES)),
-    }
 }
 
 fn many_declared(r: &mut Random) -> Aimed {
