@@ -53,13 +53,13 @@ module _ {t places : List ℕ} {count m name body n : ℕ} (x : NumberRead t pla
       only ds d h j (unknown v) = v
 
 -- what is misnamed in all of them
-record WrongIn (ds : List Declaration) (k : ℕ) : Type 0 where
-  index : ℕ
-  declaration : Declaration
-  there : Nth ds index declaration
-  wrong : Wrong (numberOf ds) (length ds) index declaration k
+pub record WrongIn (ds : List Declaration) (k : ℕ) : Type 0 where
+  pub index : ℕ
+  pub declaration : Declaration
+  pub there : Nth ds index declaration
+  pub wrong : Wrong (numberOf ds) (length ds) index declaration k
 
-misnamed-wrong : {ds : List Declaration} {k : ℕ} → Misnamed ds k → WrongIn ds k
+pub misnamed-wrong : {ds : List Declaration} {k : ℕ} → Misnamed ds k → WrongIn ds k
 misnamed-wrong {ds} (inl b) = record {
   index = b .j;
   declaration = b .other;
@@ -85,7 +85,7 @@ misnamed-wrong {ds} (inr b) = record {
         let d = number-there ds (b .used .bytes) h in
         absurd (b .never (record { number = numberOf ds (b .used .bytes); declaration = d .declaration; there = d .there; same = d .same }))
 
-wrong-misnamed : {ds : List Declaration} {m k : ℕ} {d : Declaration} → Nth ds m d → Wrong (numberOf ds) (length ds) m d k → Misnamed ds k
+pub wrong-misnamed : {ds : List Declaration} {m k : ℕ} {d : Declaration} → Nth ds m d → Wrong (numberOf ds) (length ds) m d k → Misnamed ds k
 wrong-misnamed {ds} {m} {d = d} n (again h e) =
     let b = number-there ds (d .named) (omega (arith, nth-below n)) in
     inl (record {
