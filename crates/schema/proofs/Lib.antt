@@ -1,0 +1,2 @@
+-- Laws of the bytes.
+pub mod Packing

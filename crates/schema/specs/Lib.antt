@@ -1,0 +1,2 @@
+-- What a table is in a file.
+pub mod Bytes
