@@ -117,10 +117,10 @@ isAt (At e) = true
 isAt (Bad k) = false
 isAt (Over k) = false
 
-bad-at : {k e : ℕ} → Bad k ≢ At e
+pub bad-at : {k e : ℕ} → Bad k ≢ At e
 bad-at p = true-false {b = true} refl (sym (ap isAt p))
 
-over-at : {k e : ℕ} → Over k ≢ At e
+pub over-at : {k e : ℕ} → Over k ≢ At e
 over-at p = true-false {b = true} refl (sym (ap isAt p))
 
 pub declared-told : (t : List ℕ) (a : ℕ) → a ≤ length t → ¬ Byte t a (code "-") → (r : Step) → Reads FromKeyword (FromItems true) t a r → Told FromOpen t a (declaredOf r)

@@ -1,0 +1,1 @@
+// Worked examples of DTD text, as one proved statement: proofs/Samples. There is no code here.
