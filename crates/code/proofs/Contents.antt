@@ -48,8 +48,8 @@ no-sign : {t : List ℕ} {a b e : ℕ} {p : Particle} → BlanksRead t (suc a) b
 no-sign s g (as-choice h w r k) = let z = same-blanks s w (row-no-space r) in row-no-number-sign r (rw z at g)
 no-sign s g (as-sequence h w r k) = let z = same-blanks s w (row-no-space r) in row-no-number-sign r (rw z at g)
 
-module _ {t places before after : List ℕ} {count at size grown : ℕ} where
-  pub letter-put : {c : ℕ} → Byte t at c → (c ≡ code "E") ⊎ (c ≡ code "A") → Inserts before size size 65536 after grown → ContentPut t places count at before size after grown
+module _ {t list before after : List ℕ} {count at size grown : ℕ} where
+  pub letter-put : {c : ℕ} → Byte t at c → (c ≡ code "E") ⊎ (c ≡ code "A") → Inserts before size size 65536 after grown → ContentPut t list count at before size after grown
   letter-put {c} g l i = record { of = λ ds k x e s a h. of ds (begins s); kept = i .kept }
     where
       not-open : Byte t at (code "(") → ⊥
@@ -60,7 +60,7 @@ module _ {t places before after : List ℕ} {count at size grown : ℕ} where
       of ds (with-text p q) = absurd (not-open (p .open-it))
       of ds (with-children p c q) = absurd (not-open (children-open c))
 
-  pub text-put : TextRead t at true → Inserts before size size 131072 after grown → ContentPut t places count at before size after grown
+  pub text-put : TextRead t at true → Inserts before size size 131072 after grown → ContentPut t list count at before size after grown
   text-put y i = record { of = λ ds k x e s a h. of ds (begins s); kept = i .kept }
     where
       of : (ds : List Declaration) {e : ℕ} {x : Content} → Begins t at e x → Emits (codeOfContent (numberOf ds) x) before size after grown
@@ -94,22 +94,22 @@ holds-long l c d h i j x = record {
   same = λ k m n. (x .same k (omega (arith, length-append l c)) n ∙ front-of l c k (omega arith) ∙ sym (front-of l d k (omega arith)));
 }
 
-module _ {t places before mid : List ℕ} {count at size e n : ℕ} (x : ParticlePut t places count 16 at before size mid e n) (no-e : ¬ Byte t at (code "E")) (no-a : ¬ Byte t at (code "A")) (y : TextRead t at false) where
+module _ {t list before mid : List ℕ} {count at size e n : ℕ} (x : ParticlePut t list count 16 at before size mid e n) (no-e : ¬ Byte t at (code "E")) (no-a : ¬ Byte t at (code "A")) (y : TextRead t at false) where
   -- a content of particles
   only-children : {after : List ℕ} {grown : ℕ} → ((ds : List Declaration) (m : Model) → Emits (codeOf (numberOf ds) m) before size mid n → Emits (codeOfModel (numberOf ds) m) before size after grown)
-      → (ds : List Declaration) → Known t places count ds → (c : Content) (f : ℕ) → Begins t at f c → After t f → ShallowIn c → Emits (codeOfContent (numberOf ds) c) before size after grown
+      → (ds : List Declaration) → Known t list count ds → (c : Content) (f : ℕ) → Begins t at f c → After t f → ShallowIn c → Emits (codeOfContent (numberOf ds) c) before size after grown
   only-children g ds k c f (with-letter h m q) a s = absurd (elim m [ inl z ↦ no-e (rw z at h) | inr z ↦ no-a (rw z at h) ])
   only-children g ds k c f (with-text p q) a s = absurd (let z = y (p .open-it) in z .2 (text-sign (z .1) p))
   only-children g ds k c f (with-children p r q) a s = rw q (g ds (modelOf p) (x .of ds k p f (cp-group r) a (rw q at s) .1))
 
-  pub children-put : {m : ℕ} → m ≡ min (suc size) 1281 → n ≢ m → ContentPut t places count at before size mid n
+  pub children-put : {m : ℕ} → m ≡ min (suc size) 1281 → n ≢ m → ContentPut t list count at before size mid n
   children-put {m} z f = record { of = λ ds k c e s a h. only-children go ds k c e (begins s) a h; kept = x .ends .kept }
     where
       go : (ds : List Declaration) (w : Model) → Emits (codeOf (numberOf ds) w) before size mid n → Emits (codeOfModel (numberOf ds) w) before size mid n
       go ds (element a) u = record { holds = λ l h. absurd (f (let v = u .holds l h .sized in let q = h .sized in omega (arith, length-append l (codeOf (numberOf ds) (element a))))) }
       go ds (made o) u = u
 
-  pub lone-put : {m grown : ℕ} {after : List ℕ} → m ≡ min (suc size) 1281 → n ≡ m → Inserts mid n size 196609 after grown → ContentPut t places count at before size after grown
+  pub lone-put : {m grown : ℕ} {after : List ℕ} → m ≡ min (suc size) 1281 → n ≡ m → Inserts mid n size 196609 after grown → ContentPut t list count at before size after grown
   lone-put {m} {grown} {after} z f i = record { of = λ ds k c e s a h. only-children go ds k c e (begins s) a h; kept = i .kept ∙ x .ends .kept }
     where
       go : (ds : List Declaration) (w : Model) → Emits (codeOf (numberOf ds) w) before size mid n → Emits (codeOfModel (numberOf ds) w) before size after grown

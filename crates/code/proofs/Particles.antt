@@ -62,8 +62,8 @@ number-most (m ∷ ms) n = go (number-most ms n) (sameName m n)
 number-few : (ds : List Declaration) (n : List ℕ) → numberOf ds n ≤ length ds
 number-few ds n = omega (arith, number-most (namesOf ds) n, length-map {A = Declaration} {B = List ℕ} ds (λ d. d .named))
 
-pub name-put : {t places before after : List ℕ} {count at size r w e grown : ℕ} → at ≤ length t → NameEnd t at e → NumberRead t places count at r → (r ≤ 256 → w ≡ r)
-    → Inserts before size size w after grown → NamePut t places count at before size after e grown
+pub name-put : {t list before after : List ℕ} {count at size r w e grown : ℕ} → at ≤ length t → NameEnd t at e → NumberRead t list count at r → (r ≤ 256 → w ≡ r)
+    → Inserts before size size w after grown → NamePut t list count at before size after e grown
 name-put {before = before} {after = after} {size = size} {r = r} {w = w} {grown = grown} j x y f i = record {
   ends = record { from = span-le (x .bytes); inside = x .inside j; kept = i .kept };
   of = λ ds k n e z g. (let q = y .of ds n (k .all) (k .few) (k .listed) (record { end = e; is-name = z; over = g }) in
@@ -71,32 +71,32 @@ name-put {before = before} {after = after} {size = size} {r = r} {w = w} {grown 
       (same-end x z g, rw v at (emits-one i)));
 }
 
-pub name-dropped : {t places before : List ℕ} {count at size e grown : ℕ} → at ≤ length t → NameEnd t at e → 1280 ≤ size → grown ≡ min (suc size) 1281
-    → NamePut t places count at before size before e grown
+pub name-dropped : {t list before : List ℕ} {count at size e grown : ℕ} → at ≤ length t → NameEnd t at e → 1280 ≤ size → grown ≡ min (suc size) 1281
+    → NamePut t list count at before size before e grown
 name-dropped j x h g = record {
   ends = record { from = span-le (x .bytes); inside = x .inside j; kept = refl };
   of = λ ds k n e z o. (same-end x z o, emits-one (drops h g));
 }
 
 -- a particle that is a name, and one that is a group
-module _ {t places before mid after : List ℕ} {count depth at size : ℕ} where
-  pub particle-named : {e m end grown : ℕ} → ¬ Byte t at (code "(") → NamePut t places count at before size mid e m → MarkPut t e size mid m after end grown
-      → ParticlePut t places count depth at before size after end grown
+module _ {t list before mid after : List ℕ} {count depth at size : ℕ} where
+  pub particle-named : {e m end grown : ℕ} → ¬ Byte t at (code "(") → NamePut t list count at before size mid e m → MarkPut t e size mid m after end grown
+      → ParticlePut t list count depth at before size after end grown
   particle-named {e} {m} {end} {grown} f x y = record { ends = ends-on (x .ends) (y .ends); of = λ ds k p b c a s. of ds k c a }
     where
       no-group : {b : ℕ} {p : Particle} → Children t at b p → ⊥
       no-group (as-choice g s r k) = f g
       no-group (as-sequence g s r k) = f g
 
-      of : (ds : List Declaration) → Known t places count ds → {p : Particle} {b : ℕ} → Cp t at b p → After t b → (end ≡ b) × Emits (codeOf (numberOf ds) (modelOf p)) before size after grown
+      of : (ds : List Declaration) → Known t list count ds → {p : Particle} {b : ℕ} → Cp t at b p → After t b → (end ≡ b) × Emits (codeOf (numberOf ds) (modelOf p)) before size after grown
       of ds k (cp-name {b = c} {n = n} {k = l} g q) a =
           let u = x .of ds k n c g (mark-ends-name q (λ r. a .no-name)) in
           let v = y .of (numberOf ds) (element n) l _ (rw (sym (u .0)) at q) a in
           (v .0, record { holds = λ l h. v .1 l (h .sized) (u .1 .holds l h) })
       of ds k (cp-group c) a = absurd (no-group c)
 
-  pub particle-group : {b e m end grown below : ℕ} → depth ≡ suc below → Byte t at (code "(") → BlanksRead t (suc at) b → GroupPut t places count below b before size mid e m
-      → MarkPut t e size mid m after end grown → ParticlePut t places count depth at before size after end grown
+  pub particle-group : {b e m end grown below : ℕ} → depth ≡ suc below → Byte t at (code "(") → BlanksRead t (suc at) b → GroupPut t list count below b before size mid e m
+      → MarkPut t e size mid m after end grown → ParticlePut t list count depth at before size after end grown
   particle-group {b} {e} {m} {end} {grown} {below} d g s x y = record {
     ends = ends-on (record { from = omega (arith, span-le (s .blanks), x .ends .from); inside = x .ends .inside; kept = x .ends .kept }) (y .ends);
     of = λ ds k p c q a f. of ds k q a (λ i z. f i (rw d z));
@@ -108,15 +108,15 @@ module _ {t places before mid after : List ℕ} {count depth at size : ℕ} wher
           let v = y .of (numberOf ds) w l h (rw (sym (u .0)) at q) a in
           (v .0, record { holds = λ j i. v .1 j (i .sized) (u .1 .holds j i) })
 
-      of : (ds : List Declaration) → Known t places count ds → {p : Particle} {c : ℕ} → Cp t at c p → After t c → Shallow (suc below) p → (end ≡ c) × Emits (codeOf (numberOf ds) (modelOf p)) before size after grown
+      of : (ds : List Declaration) → Known t list count ds → {p : Particle} {c : ℕ} → Cp t at c p → After t c → Shallow (suc below) p → (end ≡ c) × Emits (codeOf (numberOf ds) (modelOf p)) before size after grown
       of ds k (cp-name n q) a f = absurd (off g refl (n .start))
       of ds k (cp-group (as-choice {p = p} {ps = ps} h w r q)) a f = behind ds (eitherOf (modelsOf (more p ps))) (x .choices ds k p ps _ (rw (sym (same-blanks s w (row-no-space r))) at r) f) q a
       of ds k (cp-group (as-sequence {ps = ps} h w r q)) a f = behind ds (inOrderOf (modelsOf ps)) (x .sequences ds k ps _ (rw (sym (same-blanks s w (row-no-space r))) at r) f) q a
 
 -- a group where none is allowed
-pub particle-deep : {t places before : List ℕ} {count at size : ℕ} (depth : ℕ) → depth ≡ 0 → Byte t at (code "(") → at ≤ length t
-    → ParticlePut t places count depth at before size before at size
-particle-deep {t} {places} {before} {count} {at} {size} depth e g l = record { ends = record { from = omega arith; inside = l; kept = refl }; of = λ ds k p b c a s. absurd (no c (λ i. rw e at (s i))) }
+pub particle-deep : {t list before : List ℕ} {count at size : ℕ} (depth : ℕ) → depth ≡ 0 → Byte t at (code "(") → at ≤ length t
+    → ParticlePut t list count depth at before size before at size
+particle-deep {t} {list} {before} {count} {at} {size} depth e g l = record { ends = record { from = omega arith; inside = l; kept = refl }; of = λ ds k p b c a s. absurd (no c (λ i. rw e at (s i))) }
   where
     no : {b : ℕ} {p : Particle} → Cp t at b p → Shallow 0 p → ⊥
     no (cp-name n q) s = off g refl (n .start)

@@ -76,7 +76,7 @@ rest-view (ended g) = at-close g refl refl
 rest-view (another {p = p} {qs = qs} g v c w r) = at-next p qs refl g v c w r
 
 -- how far a row's other particles were put
-pub record Progress (t places : List ℕ) (depth at s : ℕ) (before : List ℕ) (size : ℕ) (ds : List Declaration) (qs : List Particle) (e i n : ℕ) (buffer : List ℕ) (grown : ℕ) : Type 0 where
+pub record Progress (t list : List ℕ) (depth at s : ℕ) (before : List ℕ) (size : ℕ) (ds : List Declaration) (qs : List Particle) (e i n : ℕ) (buffer : List ℕ) (grown : ℕ) : Type 0 where
   pub done : List Particle
   pub rest : List Particle
   pub split : qs ≡ done ++ rest
@@ -86,20 +86,20 @@ pub record Progress (t places : List ℕ) (depth at s : ℕ) (before : List ℕ)
   pub wide : at + 2 * length done ≤ i
   pub emits : Emits (codesOf (numberOf ds) done) before size buffer grown
 
-pub progress-start : {t places before : List ℕ} {depth at s size e : ℕ} {ds : List Declaration} {qs : List Particle} → RowRest t s at e qs → EachShallow depth qs
-    → Progress t places depth at s before size ds qs e at 1 before size
+pub progress-start : {t list before : List ℕ} {depth at s size e : ℕ} {ds : List Declaration} {qs : List Particle} → RowRest t s at e qs → EachShallow depth qs
+    → Progress t list depth at s before size ds qs e at 1 before size
 progress-start {qs = qs} r f = record { done = []; rest = qs; split = refl; ahead = r; shallow = f; number = refl; wide = omega arith; emits = emits-none }
 
 codes-more : (number : List ℕ → ℕ) (done : List Particle) (p : Particle) → codesOf number (done ++ (p ∷ [])) ≡ codesOf number done ++ codeOf number (modelOf p)
 codes-more number [] p = append-nil (codeOf number (modelOf p))
 codes-more number (q ∷ done) p = ap (λ (l : List ℕ). codeOf number (modelOf q) ++ l) (codes-more number done p) ∙ sym (append-assoc (codeOf number (modelOf q)) (codesOf number done) (codeOf number (modelOf p)))
 
-module _ {t places before : List ℕ} {count depth at s size : ℕ} (x : Separator s) {ds : List Declaration} (k : Known t places count ds) {qs : List Particle} {e : ℕ} where
-  pub progress-on : {i n d f c grown further : ℕ} {buffer after : List ℕ} → Byte t i s → BlanksRead t (suc i) d → ParticlePut t places count depth d buffer grown after f further → BlanksRead t f c
-      → Progress t places depth at s before size ds qs e i n buffer grown → Progress t places depth at s before size ds qs e c (suc n) after further
+module _ {t list before : List ℕ} {count depth at s size : ℕ} (x : Separator s) {ds : List Declaration} (k : Known t list count ds) {qs : List Particle} {e : ℕ} where
+  pub progress-on : {i n d f c grown further : ℕ} {buffer after : List ℕ} → Byte t i s → BlanksRead t (suc i) d → ParticlePut t list count depth d buffer grown after f further → BlanksRead t f c
+      → Progress t list depth at s before size ds qs e i n buffer grown → Progress t list depth at s before size ds qs e c (suc n) after further
   progress-on {i} {n} {d} {f} {c} {grown} {further} {buffer} {after} b v y w p = go (rest-view (p .ahead))
     where
-      go : RestView t s i e (p .rest) → Progress t places depth at s before size ds qs e c (suc n) after further
+      go : RestView t s i e (p .rest) → Progress t list depth at s before size ds qs e c (suc n) after further
       go (at-close g z h) = absurd (x .open-still (clash b g))
       go (at-next o ps z g u r m l) =
           let a = same-blanks v u (cp-no-space r) in
@@ -119,7 +119,7 @@ module _ {t places before : List ℕ} {count depth at s size : ℕ} (x : Separat
 
   -- at the ')'
   pub progress-ends : {i n end w start grown further : ℕ} {buffer after : List ℕ} (kind : ℕ) (c : List ℕ) → ¬ Byte t i s → i ≤ length t → CloseRead t i end → w ≡ kind + min n 65535
-      → Inserts buffer grown start w after further → Progress t places depth at s before size ds qs e i n buffer grown
+      → Inserts buffer grown start w after further → Progress t list depth at s before size ds qs e i n buffer grown
       → (end ≡ e) × ((l : List ℕ) → Sized start l → Holds before size (l ++ c) → Holds after further (l ++ ((kind + suc (length qs)) ∷ (c ++ codesOf (numberOf ds) qs))))
   progress-ends {i} {n} {end} {w} {start} {grown} {further} {buffer} {after} kind c f h v q y p = go (rest-view (p .ahead))
     where
@@ -161,8 +161,8 @@ record First (t : List ℕ) (depth b s : ℕ) (before : List ℕ) (size : ℕ) (
   ahead : RowRest t s b e (tailOf ps)
   shallow : EachShallow depth (tailOf ps)
 
-module _ {t places before mid : List ℕ} {count depth at size m n b : ℕ} (x : ParticlePut t places count depth at before size mid m n) (w : BlanksRead t m b) where
-  first-of : {s e : ℕ} {ds : List Declaration} {ps : Particles} → Separator s → Known t places count ds → Row t s at e ps → AllShallow depth ps → First t depth b s before size mid n ds ps e
+module _ {t list before mid : List ℕ} {count depth at size m n b : ℕ} (x : ParticlePut t list count depth at before size mid m n) (w : BlanksRead t m b) where
+  first-of : {s e : ℕ} {ds : List Declaration} {ps : Particles} → Separator s → Known t list count ds → Row t s at e ps → AllShallow depth ps → First t depth b s before size mid n ds ps e
   first-of {ds = ds} {ps = ps} z k r f =
       let v = row-view r in
       let sh = each-shallow depth ps f in
@@ -181,7 +181,7 @@ module _ {t places before mid : List ℕ} {count depth at size m n b : ℕ} (x :
         → (end ≡ e) × Emits c before size after grown
     with-code y z = (z .0, record { holds = λ l h. z .1 l (h .sized) (y .holds l h) })
 
-    pub group-choice : Byte t b (code "|") → RestPut t places count depth b size (code "|") 262144 mid n after end grown → GroupPut t places count depth at before size after end grown
+    pub group-choice : Byte t b (code "|") → RestPut t list count depth b size (code "|") 262144 mid n after end grown → GroupPut t list count depth at before size after end grown
     group-choice g y = record {
       ends = ends-on here (y .ends);
       choices = λ ds k p ps e r f. (let v = first-of bar k r f in
@@ -189,14 +189,14 @@ module _ {t places before mid : List ℕ} {count depth at size m n b : ℕ} (x :
       sequences = λ ds k ps e r f. absurd (other-byte (first-of comma k r f) g (λ z. omega arith) (λ z. omega arith));
     }
 
-    pub group-sequence : Byte t b (code ",") → RestPut t places count depth b size (code ",") 196608 mid n after end grown → GroupPut t places count depth at before size after end grown
+    pub group-sequence : Byte t b (code ",") → RestPut t list count depth b size (code ",") 196608 mid n after end grown → GroupPut t list count depth at before size after end grown
     group-sequence g y = record {
       ends = ends-on here (y .ends);
       choices = λ ds k p ps e r f. absurd (other-byte (first-of bar k r f) g (λ z. omega arith) (λ z. omega arith));
       sequences = λ ds k ps e r f. of ds k ps e r f;
     }
       where
-        of : (ds : List Declaration) → Known t places count ds → (ps : Particles) (e : ℕ) → Row t (code ",") at e ps → AllShallow depth ps → (end ≡ e) × Emits (codeOf (numberOf ds) (inOrderOf (modelsOf ps))) before size after grown
+        of : (ds : List Declaration) → Known t list count ds → (ps : Particles) (e : ℕ) → Row t (code ",") at e ps → AllShallow depth ps → (end ≡ e) × Emits (codeOf (numberOf ds) (inOrderOf (modelsOf ps))) before size after grown
         of ds k (last p) e r f = absurd (closed-byte (first-of comma k r f .ahead))
           where
             closed-byte : RowRest t (code ",") b e [] → ⊥
@@ -208,7 +208,7 @@ module _ {t places before mid : List ℕ} {count depth at size m n b : ℕ} (x :
         of ds k (more p ps) e r f = let v = first-of comma k r f in
             rw (in-order-code (numberOf ds) p ps) (with-code (v .emits) (y .of ds k (codeOf (numberOf ds) (modelOf p)) (tailOf (more p ps)) e (v .ahead) (v .shallow)))
 
-  pub group-single : {end : ℕ} → ¬ Byte t b (code "|") → ¬ Byte t b (code ",") → CloseRead t b end → GroupPut t places count depth at before size mid end n
+  pub group-single : {end : ℕ} → ¬ Byte t b (code "|") → ¬ Byte t b (code ",") → CloseRead t b end → GroupPut t list count depth at before size mid end n
   group-single {end} f g y = record {
     ends = record { from = omega (arith, here .from, close-le y); inside = close-in y (w .inside); kept = x .ends .kept };
     choices = λ ds k p ps e r h. absurd (next-byte f (first-of bar k r h .ahead));
@@ -225,6 +225,6 @@ module _ {t places before mid : List ℕ} {count depth at size m n b : ℕ} (x :
           passed-here (passed z) q = refl
           passed-here (left z) q = absurd (z q)
 
-      of : (ds : List Declaration) → Known t places count ds → (ps : Particles) (e : ℕ) → Row t (code ",") at e ps → AllShallow depth ps → (end ≡ e) × Emits (codeOf (numberOf ds) (inOrderOf (modelsOf ps))) before size mid n
+      of : (ds : List Declaration) → Known t list count ds → (ps : Particles) (e : ℕ) → Row t (code ",") at e ps → AllShallow depth ps → (end ≡ e) × Emits (codeOf (numberOf ds) (inOrderOf (modelsOf ps))) before size mid n
       of ds k (last p) e r h = let v = first-of comma k r h in (closed-at (v .ahead), v .emits)
       of ds k (more p ps) e r h = absurd (next-byte g (first-of comma k r h .ahead))

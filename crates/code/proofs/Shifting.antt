@@ -1,4 +1,4 @@
--- Words of a buffer move on by one, and a word is put before them. Assumes nothing.
+-- A word is put before those that moved on by one. Assumes nothing.
 use Prim.Native.Nat.{ℕ, zero, suc, _+_, _-_, _≤_, _<_, min}
 use mathlib.Core.Path.{_≡_, refl, sym, _∙_}
 use mathlib.Core.Logic.{_⊎_, inl, inr}
@@ -7,34 +7,8 @@ use native.Mathlib.Omega.{arith}
 use lib.ListN.{length, getD, set, length-append, length-set}
 use lib.Seq.{getD-set-same, getD-set-other}
 use Rattle.grammar.proofs.Stopping.{le-or-lt}
-use Rattle.code.specs.steps.Holding.{Sized, Holds, Shifted, Inserts}
-
-pub shifted-start : (l : List ℕ) (n : ℕ) → Shifted l l n n
-shifted-start l n = record { left = λ j h. refl; moved = λ j h k. absurd (omega arith); right = λ j h. refl; kept = refl }
-
--- one word more
-pub shifted-more : {before after : List ℕ} {i n : ℕ} → Shifted before after (suc i) n → suc i ≤ n → n < length before → Shifted before (set after (suc i) (getD after i 0)) i n
-shifted-more {before} {after} {i} {n} s h l = record {
-  left = λ j k. getD-set-other after (suc i) j (getD after i 0) 0 (λ e. omega arith) ∙ s .left j (omega arith);
-  moved = λ j k m. elim (le-or-lt j i) [
-    | inl e ↦ (let z : j ≡ i = omega arith in rw z (getD-set-same after (suc i) (getD after i 0) 0 (omega (arith, s .kept)) ∙ s .left i (omega arith)))
-    | inr e ↦ getD-set-other after (suc i) (suc j) (getD after i 0) 0 (λ q. omega arith) ∙ s .moved j (omega arith) m
-  ];
-  right = λ j k. getD-set-other after (suc i) j (getD after i 0) 0 (λ e. omega arith) ∙ s .right j k;
-  kept = length-set after (suc i) (getD after i 0) ∙ s .kept;
-}
-
-pub shifted-done : {before after : List ℕ} {i at n : ℕ} → Shifted before after i n → i ≤ n → i ≤ at → (at ≤ i) ⊎ (i ≡ n) → Shifted before after at n
-shifted-done {before} {after} {i} {at} {n} s h k (inl l) = let z : at ≡ i = omega arith in rw z s
-shifted-done {before} {after} {i} {at} {n} s h k (inr e) = record {
-  left = λ j l. elim (le-or-lt j i) [ inl m ↦ s .left j m | inr m ↦ s .right j (omega arith) ];
-  moved = λ j l m. absurd (omega arith);
-  right = λ j l. s .right j l;
-  kept = s .kept;
-}
-
-pub shifted-less : {before after : List ℕ} {n : ℕ} (i k : ℕ) → i ≡ suc k → Shifted before after i n → i ≤ n → n < length before → Shifted before (set after i (getD after k 0)) k n
-shifted-less i k e s h l = rw e (shifted-more (rw e at s) (omega arith) l)
+use Rattle.names.specs.steps.Shifting.{Shifted}
+use Rattle.code.specs.steps.Holding.{Sized, Holds, Inserts}
 
 -- a word put where the others made room for it
 pub front-of : (l m : List ℕ) (i : ℕ) → i < length l → getD (l ++ m) i 0 ≡ getD l i 0
@@ -48,7 +22,7 @@ back-of (x ∷ l) m zero j e = absurd (omega arith)
 back-of (x ∷ l) m (suc i) j e = back-of l m i j (omega arith)
 
 module _ {before : List ℕ} (l m : List ℕ) {size : ℕ} (at w : ℕ) (s : Sized at l) (x : Holds before size (l ++ m)) where
-  pub inserted : {mid : List ℕ} {grown : ℕ} (last : ℕ) → last ≡ min size 1279 → at < 1280 → length before ≡ 1280 → Shifted before mid at last → grown ≡ min (suc size) 1281
+  pub inserted : {mid : List ℕ} {grown : ℕ} (last : ℕ) → last ≡ min size 1279 → at < 1280 → length before ≡ 1280 → Shifted 1 before mid at last → grown ≡ min (suc size) 1281
       → Holds (set mid at w) grown (l ++ (w ∷ m))
   inserted {mid} {grown} last d h n y g = record { sized = omega (arith, s, x .sized, length-append l m, length-append l (w ∷ m)); same = λ i j k. go i j k (le-or-lt at i) }
     where
@@ -64,7 +38,7 @@ module _ {before : List ℕ} (l m : List ℕ) {size : ℕ} (at w : ℕ) (s : Siz
           let b = length-append l (w ∷ m) in
           let c : suc (i - at) + length l ≡ suc i = omega arith in
           getD-set-other mid at (suc i) w 0 (λ z. omega arith)
-          ∙ y .moved i q (omega (arith, x .sized))
+          ∙ (let s : suc i ≡ i + 1 = omega arith in rw s (y .moved i q (omega (arith, x .sized))))
           ∙ x .same i (omega arith) (omega arith)
           ∙ back-of l m i (i - at) (omega arith)
           ∙ sym (back-of l (w ∷ m) (suc i) (suc (i - at)) (omega arith))
@@ -83,7 +57,7 @@ module _ {before : List ℕ} (l m : List ℕ) {size : ℕ} (at w : ℕ) (s : Siz
     same = λ i j k. (x .same i (omega (arith, length-append l m)) k ∙ front-of l m i (omega arith) ∙ sym (front-of l (w ∷ m) i (omega arith)));
   }
 
-pub inserts : {before mid : List ℕ} {size at w grown : ℕ} (last : ℕ) → last ≡ min size 1279 → at < 1280 → length before ≡ 1280 → Shifted before mid at last → grown ≡ min (suc size) 1281
+pub inserts : {before mid : List ℕ} {size at w grown : ℕ} (last : ℕ) → last ≡ min size 1279 → at < 1280 → length before ≡ 1280 → Shifted 1 before mid at last → grown ≡ min (suc size) 1281
     → Inserts before size at w (set mid at w) grown
 inserts {before} {mid} {size} {at} {w} last d h n y g = record { holds = λ l m s x. inserted l m at w s x last d h n y g; kept = length-set mid at w ∙ y .kept }
 

@@ -15,7 +15,7 @@ use Rattle.code.specs.steps.Holding.{Holds}
 use Rattle.code.specs.steps.Putting.{Known, AllShallowIn, ContentPut}
 
 -- how many declarations were put
-pub record Done (t places : List ℕ) (count at : ℕ) (buffer : List ℕ) (size : ℕ) (ds : List Declaration) : Type 0 where
+pub record Done (t list : List ℕ) (count at : ℕ) (buffer : List ℕ) (size : ℕ) (ds : List Declaration) : Type 0 where
   pub done : List Declaration
   pub rest : List Declaration
   pub split : ds ≡ done ++ rest
@@ -23,7 +23,7 @@ pub record Done (t places : List ℕ) (count at : ℕ) (buffer : List ℕ) (size
   pub shallow : AllShallowIn rest
   pub holds : Holds buffer size (codeOfAll (numberOf ds) done)
 
-pub done-start : {t places buffer : List ℕ} {count : ℕ} (ds : List Declaration) → Items t 0 ds → AllShallowIn ds → Done t places count 0 buffer 0 ds
+pub done-start : {t list buffer : List ℕ} {count : ℕ} (ds : List Declaration) → Items t 0 ds → AllShallowIn ds → Done t list count 0 buffer 0 ds
 done-start ds i f = record { done = []; rest = ds; split = refl; ahead = i; shallow = f; holds = record { sized = refl; same = λ j h k. absurd (omega arith) } }
 
 code-more : (number : List ℕ → ℕ) (done : List Declaration) (d : Declaration) → codeOfAll number (done ++ (d ∷ [])) ≡ codeOfAll number done ++ codeOfContent number (d .content)
@@ -42,11 +42,11 @@ next-ahead (one-there {d} {ds} x) = ahead d ds refl x
 next-none : {t : List ℕ} {ds : List Declaration} → NextOf t ds End → ds ≡ []
 next-none none-left = refl
 
-pub done-on : {t places buffer after : List ℕ} {count at size grown name body next : ℕ} {r : Next} {ds : List Declaration} → Known t places count ds → r ≡ Declared name body → NextRead t at r
-    → ContentPut t places count body buffer size after grown → BehindRead t body next → Done t places count at buffer size ds → Done t places count next after grown ds
-done-on {t} {places} {buffer} {after} {count} {at} {size} {grown} {name} {body} {next} {r} {ds} k e x y z p = go (next-ahead (next-is e x .of (p .rest) (p .ahead)))
+pub done-on : {t list buffer after : List ℕ} {count at size grown name body next : ℕ} {r : Next} {ds : List Declaration} → Known t list count ds → r ≡ Declared name body → NextRead t at r
+    → ContentPut t list count body buffer size after grown → BehindRead t body next → Done t list count at buffer size ds → Done t list count next after grown ds
+done-on {t} {list} {buffer} {after} {count} {at} {size} {grown} {name} {body} {next} {r} {ds} k e x y z p = go (next-ahead (next-is e x .of (p .rest) (p .ahead)))
   where
-    go : Ahead t (p .rest) name body → Done t places count next after grown ds
+    go : Ahead t (p .rest) name body → Done t list count next after grown ds
     go (ahead d es q w) =
         let sh : AllShallowIn (d ∷ es) = rw q at (p .shallow) in
         record {
@@ -58,7 +58,7 @@ done-on {t} {places} {buffer} {after} {count} {at} {size} {grown} {name} {body} 
           holds = rw (code-more (numberOf ds) (p .done) d) (y .of ds k (d .content) (w .end) (w .spec) (w .after) (sh .0) .holds (codeOfAll (numberOf ds) (p .done)) (p .holds));
         }
 
-pub done-all : {t places buffer : List ℕ} {count at size : ℕ} {r : Next} {ds : List Declaration} → r ≡ End → NextRead t at r → Done t places count at buffer size ds → Holds buffer size (codeOfAll (numberOf ds) ds)
+pub done-all : {t list buffer : List ℕ} {count at size : ℕ} {r : Next} {ds : List Declaration} → r ≡ End → NextRead t at r → Done t list count at buffer size ds → Holds buffer size (codeOfAll (numberOf ds) ds)
 done-all {buffer = buffer} {size = size} {ds = ds} e x p =
     let n = next-none (next-is e x .of (p .rest) (p .ahead)) in
     let all : ds ≡ p .done = p .split ∙ ap (λ (l : List Declaration). p .done ++ l) n ∙ append-nil (p .done) in

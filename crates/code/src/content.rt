@@ -30,13 +30,13 @@ fn is_text(s: &[u8], at: usize) -> bool
 pub fn put_content(
     s: &[u8],
     at: usize,
-    places: &[u16; 256],
+    list: &[u16; 512],
     count: usize,
     code: &mut [u32; 1280],
     size: usize,
 ) -> usize
     requires { ⌜ (at ≤ length (now s)) × (length (now code) ≡ 1280) ⌝ }
-    ensures { λ r. ⌜ ContentPut (now (s .entry)) (now (places .entry)) count at (now (code .entry)) size (now (code .exit)) r ⌝ }
+    ensures { λ r. ⌜ ContentPut (now (s .entry)) (now (list .entry)) count at (now (code .entry)) size (now (code .exit)) r ⌝ }
 {
     if is(s, at, b'E') {
         return insert(code, size, size, EMPTY);
@@ -47,7 +47,7 @@ pub fn put_content(
     if is_text(s, at) {
         return insert(code, size, size, TEXT);
     }
-    let p = put_particle(s, at, 16, places, count, code, size);
+    let p = put_particle(s, at, 16, list, count, code, size);
     if p.size == more(size) {
         return insert(code, p.size, size, LONE);
     }

@@ -2,7 +2,8 @@
 ghost use Prim.Native.Nat.{suc, _≤_, _<_, min};
 ghost use mathlib.Core.Path.{_≡_};
 ghost use lib.ListN.{length};
-ghost use Rattle.code.specs.steps.Holding.{Shifted, Inserts};
+ghost use Rattle.names.specs.steps.Shifting.{Shifted};
+ghost use Rattle.code.specs.steps.Holding.{Inserts};
 ghost use Rattle.code.specs.steps.Putting.{MarkPut, AllPut};
 use content::put_content;
 use names::walk::Next;
@@ -20,15 +21,15 @@ const ANY: u32 = 327681;
 
 const SEVERAL: u32 = 458753;
 
-// Moves the words behind a place, up to the last one, on by one.
-fn shift(code: &mut [u32; 1280], last: usize, at: usize)
-    requires { ⌜ (length (now code) ≡ 1280) × (last < 1280) ⌝ }
-    ensures { λ r. ⌜ Shifted (now (code .entry)) (now (code .exit)) at last ⌝ }
+// Moves the words from a place up to another on by one.
+fn shift(code: &mut [u32; 1280], low: usize, high: usize)
+    requires { ⌜ (length (now code) ≡ 1280) × (high < 1280) ⌝ }
+    ensures { λ _. ⌜ Shifted 1 (now (code .entry)) (now (code .exit)) low high ⌝ }
 {
-    let mut i = last;
-    while i > at {
-        code[i] = code[i - 1];
+    let mut i = high;
+    while i > low {
         i -= 1;
+        code[i + 1] = code[i];
     }
 }
 
@@ -50,7 +51,7 @@ pub fn insert(code: &mut [u32; 1280], size: usize, at: usize, w: u32) -> usize
     if at >= 1280 {
         return more(size);
     }
-    shift(code, least(size, 1279), at);
+    shift(code, at, least(size, 1279));
     code[at] = w;
     more(size)
 }
@@ -97,16 +98,16 @@ pub fn put_mark(s: &[u8], at: usize, code: &mut [u32; 1280], size: usize, start:
 }
 
 // The code of a text's declarations, and its size.
-pub fn put_all(s: &[u8], places: &[u16; 256], count: usize, code: &mut [u32; 1280]) -> usize
+pub fn put_all(s: &[u8], list: &[u16; 512], count: usize, code: &mut [u32; 1280]) -> usize
     requires { ⌜ length (now code) ≡ 1280 ⌝ }
-    ensures { λ r. ⌜ AllPut (now (s .entry)) (now (places .entry)) count (now (code .exit)) r ⌝ }
+    ensures { λ r. ⌜ AllPut (now (s .entry)) (now (list .entry)) count (now (code .exit)) r ⌝ }
 {
     let mut at = 0;
     let mut size = 0;
     loop {
         match declaration_from(s, at) {
             Next::Declared(_, body) => {
-                size = put_content(s, body, places, count, code, size);
+                size = put_content(s, body, list, count, code, size);
                 at = place_behind(s, at, body);
             }
             Next::End => return size,

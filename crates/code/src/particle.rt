@@ -9,7 +9,7 @@ use crate::insert;
 use crate::least;
 use crate::more;
 use crate::put_mark;
-use names::number;
+use names::list::number;
 use names::walk::name_end;
 use scan::bytes::is;
 use scan::piece::blanks;
@@ -23,13 +23,13 @@ const SEQUENCE: u32 = 196608;
 fn put_name(
     s: &[u8],
     at: usize,
-    places: &[u16; 256],
+    list: &[u16; 512],
     count: usize,
     code: &mut [u32; 1280],
     size: usize,
 ) -> Put
     requires { ⌜ (at ≤ length (now s)) × (length (now code) ≡ 1280) ⌝ }
-    ensures { λ r. ⌜ NamePut (now (s .entry)) (now (places .entry)) count at (now (code .entry)) size (now (code .exit)) (r .at) (r .size) ⌝ }
+    ensures { λ r. ⌜ NamePut (now (s .entry)) (now (list .entry)) count at (now (code .entry)) size (now (code .exit)) (r .at) (r .size) ⌝ }
 {
     let e = name_end(s, at);
     if size >= 1280 {
@@ -38,7 +38,7 @@ fn put_name(
             size: more(size),
         };
     }
-    let n = least(number(s, places, count, at), 65535) as u32;
+    let n = least(number(s, list, count, at), 65535) as u32;
     Put {
         at: e,
         size: insert(code, size, size, n),
@@ -50,22 +50,22 @@ pub fn put_particle(
     s: &[u8],
     at: usize,
     depth: usize,
-    places: &[u16; 256],
+    list: &[u16; 512],
     count: usize,
     code: &mut [u32; 1280],
     size: usize,
 ) -> Put
     requires { ⌜ (at ≤ length (now s)) × (length (now code) ≡ 1280) ⌝ }
-    ensures { λ r. ⌜ ParticlePut (now (s .entry)) (now (places .entry)) count depth at (now (code .entry)) size (now (code .exit)) (r .at) (r .size) ⌝ }
+    ensures { λ r. ⌜ ParticlePut (now (s .entry)) (now (list .entry)) count depth at (now (code .entry)) size (now (code .exit)) (r .at) (r .size) ⌝ }
 {
     if is(s, at, b'(') {
         if depth == 0 {
             return Put { at: at, size: size };
         }
-        let g = put_group(s, blanks(s, at + 1), depth - 1, places, count, code, size);
+        let g = put_group(s, blanks(s, at + 1), depth - 1, list, count, code, size);
         return put_mark(s, g.at, code, g.size, size);
     }
-    let n = put_name(s, at, places, count, code, size);
+    let n = put_name(s, at, list, count, code, size);
     put_mark(s, n.at, code, n.size, size)
 }
 
@@ -74,32 +74,21 @@ fn put_group(
     s: &[u8],
     at: usize,
     depth: usize,
-    places: &[u16; 256],
+    list: &[u16; 512],
     count: usize,
     code: &mut [u32; 1280],
     size: usize,
 ) -> Put
     requires { ⌜ (at ≤ length (now s)) × (length (now code) ≡ 1280) ⌝ }
-    ensures { λ r. ⌜ GroupPut (now (s .entry)) (now (places .entry)) count depth at (now (code .entry)) size (now (code .exit)) (r .at) (r .size) ⌝ }
+    ensures { λ r. ⌜ GroupPut (now (s .entry)) (now (list .entry)) count depth at (now (code .entry)) size (now (code .exit)) (r .at) (r .size) ⌝ }
 {
-    let p = put_particle(s, at, depth, places, count, code, size);
+    let p = put_particle(s, at, depth, list, count, code, size);
     let b = blanks(s, p.at);
     if is(s, b, b'|') {
-        return put_rest(s, b, depth, places, count, code, p.size, size, b'|', CHOICE);
+        return put_rest(s, b, depth, list, count, code, p.size, size, b'|', CHOICE);
     }
     if is(s, b, b',') {
-        return put_rest(
-            s,
-            b,
-            depth,
-            places,
-            count,
-            code,
-            p.size,
-            size,
-            b',',
-            SEQUENCE,
-        );
+        return put_rest(s, b, depth, list, count, code, p.size, size, b',', SEQUENCE);
     }
     Put {
         at: behind(s, b),
@@ -123,7 +112,7 @@ fn put_rest(
     s: &[u8],
     at: usize,
     depth: usize,
-    places: &[u16; 256],
+    list: &[u16; 512],
     count: usize,
     code: &mut [u32; 1280],
     size: usize,
@@ -132,13 +121,13 @@ fn put_rest(
     kind: u32,
 ) -> Put
     requires { ⌜ (at ≤ length (now s)) × (length (now code) ≡ 1280) × Separator separator × (kind ≤ 262144) ⌝ }
-    ensures { λ r. ⌜ RestPut (now (s .entry)) (now (places .entry)) count depth at start separator kind (now (code .entry)) size (now (code .exit)) (r .at) (r .size) ⌝ }
+    ensures { λ r. ⌜ RestPut (now (s .entry)) (now (list .entry)) count depth at start separator kind (now (code .entry)) size (now (code .exit)) (r .at) (r .size) ⌝ }
 {
     let mut i = at;
     let mut n = 1;
     let mut end = size;
     while is(s, i, separator) {
-        let p = put_particle(s, blanks(s, i + 1), depth, places, count, code, end);
+        let p = put_particle(s, blanks(s, i + 1), depth, list, count, code, end);
         i = blanks(s, p.at);
         n += 1;
         end = p.size;

@@ -101,11 +101,11 @@ module _ {t : List ℕ} (r : scanned.Read t) where
   all-shallow = shallow-items (r .text .items) (λ d i h. (i, h))
 
 -- the declared names
-module _ {t places : List ℕ} {count : ℕ} (r : scanned.Read t) (x : names.Collected t places count) where
-  pub collected : count ≤ 256 → Collected t places count
+module _ {t list : List ℕ} {count : ℕ} (r : scanned.Read t) (x : names.Collected t list count) where
+  pub collected : count ≤ 256 → Collected t list count
   collected h =
       let y = x .of (declarations r) (r .text .items) (short-text r) in
-      record { read = r; known = record { all = sym (y .0); few = h; listed = y .1; short = short-text r } }
+      record { read = r; known = record { all = sym (y .0); few = h; listed = y .1 h; short = short-text r } }
 
   pub many-declared : {out : List ℕ} → 256 < count → DtdAnswer t out 1 21 (length t) out
   many-declared h =
@@ -113,11 +113,11 @@ module _ {t places : List ℕ} {count : ℕ} (r : scanned.Read t) (x : names.Col
       large-answer r (many-types refl (r .text) (omega (arith, y .0, declared-few (declarations r))))
 
 -- the code
-module _ {t places buffer : List ℕ} {count size : ℕ} (c : Collected t places count) (x : AllPut t places count buffer size) where
+module _ {t list buffer : List ℕ} {count size : ℕ} (c : Collected t list count) (x : AllPut t list count buffer size) where
   held : holding.Holds buffer size (codeOfAll (numberOf (declarations (c .read))) (declarations (c .read)))
   held = x .of (declarations (c .read)) (c .read .text .items) (c .known) (all-shallow (c .read))
 
-  pub encoded : {front : List ℕ} (m : ℕ) → m ≡ size → size ≤ 1280 → front ≡ take m buffer → Encoded t places count front
+  pub encoded : {front : List ℕ} (m : ℕ) → m ≡ size → size ≤ 1280 → front ≡ take m buffer → Encoded t list count front
   encoded {front} m z h d = record { collected = c; coded = record { is = e ∙ same; few = omega (arith, c .known .all, c .known .few); short = omega (arith, ap {A = List ℕ} length e, length-take size buffer, x .kept) } }
     where
       e : front ≡ take size buffer
@@ -141,7 +141,7 @@ module _ {t places buffer : List ℕ} {count size : ℕ} (c : Collected t places
       large-answer (c .read) (many-children refl (c .read .text) (let z = held .sized in omega (arith, code-short (numberOf ds) ds, c .known .all, c .known .few)))
 
 -- the counts
-module _ {t places code-words : List ℕ} {count types kids : ℕ} (c : Encoded t places count code-words) (x : Counted (declarations (c .collected .read)) types kids) where
+module _ {t list code-words : List ℕ} {count types kids : ℕ} (c : Encoded t list count code-words) (x : Counted (declarations (c .collected .read)) types kids) where
   pub too-many-types : {out : List ℕ} → 256 < types → DtdAnswer t out 1 21 (length t) out
   too-many-types h = large-answer (c .collected .read) (many-types refl (c .collected .read .text) (omega (arith, x .types-are)))
 

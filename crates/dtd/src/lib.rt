@@ -39,12 +39,12 @@ fn read_table(code: &[u32], declared: usize, counts: Counts, out: &mut [u16]) ->
 // Counts types and child entries, and looks for a name that is declared twice or not at all.
 fn read_code(
     text: &[u8],
-    places: &[u16; 256],
+    list: &[u16; 512],
     declared: usize,
     code: &[u32],
     out: &mut [u16],
 ) -> Checked
-    requires { ⌜ Encoded (now text) (now places) declared (now code) ⌝ }
+    requires { ⌜ Encoded (now text) (now list) declared (now code) ⌝ }
     ensures { λ r. ⌜ DtdAnswer (now (text .entry)) (now (out .entry)) 1 (r .number) (r .place) (now (out .exit)) ⌝ }
 {
     let counts = count(code);
@@ -60,7 +60,7 @@ fn read_code(
             place: text.len(),
         };
     }
-    match first_misnamed(text, places, declared) {
+    match first_misnamed(text, list, declared) {
         Found::At(k) => Checked {
             number: 22,
             place: k,
@@ -70,19 +70,19 @@ fn read_code(
 }
 
 // Puts the declarations into code.
-fn read_named(text: &[u8], places: &[u16; 256], declared: usize, out: &mut [u16]) -> Checked
-    requires { ⌜ Collected (now text) (now places) declared ⌝ }
+fn read_named(text: &[u8], list: &[u16; 512], declared: usize, out: &mut [u16]) -> Checked
+    requires { ⌜ Collected (now text) (now list) declared ⌝ }
     ensures { λ r. ⌜ DtdAnswer (now (text .entry)) (now (out .entry)) 1 (r .number) (r .place) (now (out .exit)) ⌝ }
 {
     let mut code = [0u32; 1280];
-    let size = put_all(text, places, declared, &mut code);
+    let size = put_all(text, list, declared, &mut code);
     if size > 1280 {
         return Checked {
             number: 21,
             place: text.len(),
         };
     }
-    read_code(text, places, declared, &code[0..size], out)
+    read_code(text, list, declared, &code[0..size], out)
 }
 
 // Collects the declared names of a text of the grammar.
@@ -90,15 +90,15 @@ fn read_text(text: &[u8], out: &mut [u16]) -> Checked
     requires { ⌜ Read (now text) ⌝ }
     ensures { λ r. ⌜ DtdAnswer (now (text .entry)) (now (out .entry)) 1 (r .number) (r .place) (now (out .exit)) ⌝ }
 {
-    let mut places = [0u16; 256];
-    let declared = collect(text, &mut places);
+    let mut list = [0u16; 512];
+    let declared = collect(text, &mut list);
     if declared > 256 {
         return Checked {
             number: 21,
             place: text.len(),
         };
     }
-    read_named(text, &places, declared, out)
+    read_named(text, &list, declared, out)
 }
 
 // Reads DTD text, whatever it holds: 0 and V where its table was written to the front of out, else the refusal's number and place.

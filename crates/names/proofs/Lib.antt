@@ -5,8 +5,11 @@ pub mod Spans
 pub mod Items
 pub mod Flats
 pub mod Contents
+pub mod Orders
 pub mod Runs
 pub mod Numbered
+pub mod Shifting
+pub mod Listing
 pub mod Gone
 pub mod Unknowns
 pub mod Wrongs

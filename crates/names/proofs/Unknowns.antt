@@ -52,11 +52,11 @@ module _ {number : List ℕ → ℕ} {declared : ℕ} {u : Use} {us : List Use} 
 name-at : {t n : List ℕ} {a b : ℕ} → Name t a b n → ¬ Of isNameByte t b → NameAt t a n
 name-at {b = b} n f = record { end = b; is-name = n; over = f }
 
-module _ {t places : List ℕ} {count i : ℕ} where
-  pub unknown-over : length t ≤ i → UnknownRead t places count i Nothing
+module _ {t list : List ℕ} {count i : ℕ} where
+  pub unknown-over : length t ≤ i → UnknownRead t list count i Nothing
   unknown-over l = record { of = λ ds us c f g x. absurd (omega (arith, flat-le f, g .within)) }
 
-  pub unknown-none : Byte t i (code ">") → UnknownRead t places count i Nothing
+  pub unknown-none : Byte t i (code ">") → UnknownRead t list count i Nothing
   unknown-none b = record { of = λ ds us c f g x. go ds us c f }
     where
       go : (ds : List Declaration) (us : List Use) (c : ℕ) → Flat t i c us → (j : ℕ) → ¬ Unknown (numberOf ds) count us j
@@ -64,8 +64,8 @@ module _ {t places : List ℕ} {count i : ℕ} where
       go ds us c (no-use f g r) j x = g b
       go ds (u ∷ us) c (a-use e n f r) j x = off b refl (n .start)
 
-  pub unknown-skip : ¬ Byte t i (code ">") → ¬ Of isNameStart t i → (r : Found) → UnknownRead t places count (suc i) r
-      → UnknownRead t places count i r
+  pub unknown-skip : ¬ Byte t i (code ">") → ¬ Of isNameStart t i → (r : Found) → UnknownRead t list count (suc i) r
+      → UnknownRead t list count i r
   unknown-skip b o r y = record { of = λ ds us c f g x. y .of ds us c (go f g) g x }
     where
       go : {us : List Use} {c : ℕ} → Flat t i c us → Byte t c (code ">") → Flat t (suc i) c us
@@ -74,10 +74,10 @@ module _ {t places : List ℕ} {count i : ℕ} where
       go (a-use e n p f) g = absurd (o (n .start))
 
   module _ (b : ¬ Byte t i (code ">")) (o : Of isNameStart t i) where
-    pub unknown-hit : {n : ℕ} → NumberRead t places count i n → count ≤ n → UnknownRead t places count i (At i)
+    pub unknown-hit : {n : ℕ} → NumberRead t list count i n → count ≤ n → UnknownRead t list count i (At i)
     unknown-hit {n} m l = record { of = λ ds us c f g x. (go ds f g x, λ j h y. omega (arith, low f y)) }
       where
-        go : {us : List Use} {c : ℕ} (ds : List Declaration) → Flat t i c us → Byte t c (code ">") → Counted t ds places count
+        go : {us : List Use} {c : ℕ} (ds : List Declaration) → Flat t i c us → Byte t c (code ">") → Counted t ds list count
             → Unknown (numberOf ds) count us i
         go ds at-end g x = absurd (b g)
         go ds (no-use p q f) g x = absurd (p o)
@@ -88,11 +88,11 @@ module _ {t places : List ℕ} {count i : ℕ} where
         low : {us : List Use} {c j : ℕ} {number : List ℕ → ℕ} → Flat t i c us → Unknown number count us j → i ≤ j
         low f y = omega (arith, flat-within f (y .there) .0, y .is)
 
-    pub unknown-past : {n e : ℕ} → NumberRead t places count i n → n < count → NameEnd t i e → (r : Found) → UnknownRead t places count e r
-        → UnknownRead t places count i r
+    pub unknown-past : {n e : ℕ} → NumberRead t list count i n → n < count → NameEnd t i e → (r : Found) → UnknownRead t list count e r
+        → UnknownRead t list count i r
     unknown-past {n} {e} m l w r y = record { of = λ ds us c f g x. go ds f g x }
       where
-        go : {us : List Use} {c : ℕ} (ds : List Declaration) → Flat t i c us → Byte t c (code ">") → Counted t ds places count
+        go : {us : List Use} {c : ℕ} (ds : List Declaration) → Flat t i c us → Byte t c (code ">") → Counted t ds list count
             → Lowest (Unknown (numberOf ds) count us) r
         go ds at-end g x = absurd (b g)
         go ds (no-use p q f) g x = absurd (p o)

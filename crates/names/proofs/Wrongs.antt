@@ -24,13 +24,13 @@ use Rattle.names.proofs.Nths.{nth-below, left-first, Where, passed, is-
 use Rattle.names.proofs.Gone.{Stepped}
 use Rattle.names.proofs.Unknowns.{lowest-as}
 
-pub counted : {t places : List ℕ} {ds : List Declaration} {count : ℕ} → length ds ≡ count → count ≤ 256 → Listed t ds places
-    → Counted t ds places count
+pub counted : {t list : List ℕ} {ds : List Declaration} {count : ℕ} → length ds ≡ count → count ≤ 256 → Listed t ds list count
+    → Counted t ds list count
 counted e l x = record { size = e; few = l; listed = x }
 
 -- one declaration's names
-module _ {t places : List ℕ} {count m name body n : ℕ} (x : NumberRead t places count name n) where
-  pub wrong-again : n < m → WrongRead t places count m name body (At name)
+module _ {t list : List ℕ} {count m name body n : ℕ} (x : NumberRead t list count name n) where
+  pub wrong-again : n < m → WrongRead t list count m name body (At name)
   wrong-again l = record {
     of = λ ds d rest y k. (let e = x .of ds (d .named) (k .size) (k .few) (k .listed) (y .named) in
         (again (omega arith) (y .place), λ j h w. low ds d rest y j h w));
@@ -41,7 +41,7 @@ module _ {t places : List ℕ} {count m name body n : ℕ} (x : NumberRead t pla
       low ds d rest y j h (again w e) = omega (arith, y .place)
       low ds d rest y j h (unknown u) = omega (arith, u .is, use-within y (u .index) (u .used) (u .there) .0, y .before)
 
-  pub wrong-used : {e : ℕ} {r : Found} → m ≤ n → UsesRead t body e → UnknownRead t places count e r → WrongRead t places count m name body r
+  pub wrong-used : {e : ℕ} {r : Found} → m ≤ n → UsesRead t body e → UnknownRead t list count e r → WrongRead t list count m name body r
   wrong-used {r = r} l u w = record {
     of = λ ds d rest y k. (let e = x .of ds (d .named) (k .size) (k .few) (k .listed) (y .named) in
         lowest-as (λ j. unknown) (only ds d (omega arith)) r (w .of ds (usesOf (d .content)) (y .close) (u .of d rest name y) (y .ends) k));
@@ -143,13 +143,13 @@ pub record Right (ds : List Declaration) (m : ℕ) : Type 0 where
 pub right-start : {ds : List Declaration} → Right ds 0
 right-start = record { none = λ i k d n h. absurd (omega arith) }
 
-module _ {t places : List ℕ} {ds : List Declaration} {m name body count : ℕ} (s : Stepped t ds m name body) (x : Right ds m)
-    (c : Counted t ds places count) where
+module _ {t list : List ℕ} {ds : List Declaration} {m name body count : ℕ} (s : Stepped t ds m name body) (x : Right ds m)
+    (c : Counted t ds list count) where
   -- what was read of declaration m
-  read : {r : Found} → WrongRead t places count m name body r → Lowest (Wrong (numberOf ds) (length ds) m (s .declaration)) r
+  read : {r : Found} → WrongRead t list count m name body r → Lowest (Wrong (numberOf ds) (length ds) m (s .declaration)) r
   read {r} w = rw (c .size) (w .of ds (s .declaration) (s .rest) (s .there) c)
 
-  pub right-more : WrongRead t places count m name body Nothing → Right ds (suc m)
+  pub right-more : WrongRead t list count m name body Nothing → Right ds (suc m)
   right-more y = record { none = λ i k d n h. go i k d h (left-where (s .left) n) n }
     where
       go : (i k : ℕ) (d : Declaration) → i < suc m → Where (s .declaration ∷ s .rest) m i d → Nth ds i d → ¬ Wrong (numberOf ds) (length ds) i d k
@@ -157,7 +157,7 @@ module _ {t places : List ℕ} {ds : List Declaration} {m name body count : ℕ}
       go i k d h (is-left e first) n w = let q : i ≡ m = omega arith in read y k (rw q at w)
       go i k d h (is-left e (later o)) n w = omega arith
 
-  pub right-found : {k : ℕ} → WrongRead t places count m name body (At k) → FirstMisnamed ds (At k)
+  pub right-found : {k : ℕ} → WrongRead t list count m name body (At k) → FirstMisnamed ds (At k)
   right-found {k} y = (
     wrong-misnamed (left-first (s .left)) (read y .0),
     λ j l z.

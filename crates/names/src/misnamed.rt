@@ -3,7 +3,7 @@ ghost use Prim.Native.Nat.{_≤_};
 ghost use lib.ListN.{length};
 ghost use Rattle.names.specs.steps.Uses.{UsesRead};
 ghost use Rattle.names.specs.steps.Wrong.{UnknownRead, WrongRead};
-use crate::number;
+use crate::list::number;
 use crate::walk::name_end;
 use scan::bytes::Class;
 use scan::bytes::is;
@@ -27,8 +27,8 @@ fn first_use(s: &[u8], body: usize) -> usize
 }
 
 // The first name up to '>' that is never declared.
-fn first_unknown(s: &[u8], places: &[u16; 256], count: usize, at: usize) -> Found
-    ensures { λ r. ⌜ UnknownRead (now (s .entry)) (now (places .entry)) count at r ⌝ }
+fn first_unknown(s: &[u8], list: &[u16; 512], count: usize, at: usize) -> Found
+    ensures { λ r. ⌜ UnknownRead (now (s .entry)) (now (list .entry)) count at r ⌝ }
 {
     let mut i = at;
     while i < s.len() {
@@ -36,7 +36,7 @@ fn first_unknown(s: &[u8], places: &[u16; 256], count: usize, at: usize) -> Foun
             return Found::Nothing;
         }
         if is_of(s, i, Class::Start) {
-            if number(s, places, count, i) < count {
+            if number(s, list, count, i) < count {
                 i = name_end(s, i);
             } else {
                 return Found::At(i);
@@ -51,17 +51,17 @@ fn first_unknown(s: &[u8], places: &[u16; 256], count: usize, at: usize) -> Foun
 // The first name of declaration m that is declared before, or used and never declared.
 pub fn first_wrong(
     s: &[u8],
-    places: &[u16; 256],
+    list: &[u16; 512],
     count: usize,
     m: usize,
     name: usize,
     body: usize,
 ) -> Found
     requires { ⌜ body ≤ length (now s) ⌝ }
-    ensures { λ r. ⌜ WrongRead (now (s .entry)) (now (places .entry)) count m name body r ⌝ }
+    ensures { λ r. ⌜ WrongRead (now (s .entry)) (now (list .entry)) count m name body r ⌝ }
 {
-    if number(s, places, count, name) < m {
+    if number(s, list, count, name) < m {
         return Found::At(name);
     }
-    first_unknown(s, places, count, first_use(s, body))
+    first_unknown(s, list, count, first_use(s, body))
 }

@@ -12,10 +12,10 @@ use Rattle.code.proofs.put_all.Statement.{statement}
 use Rattle.code.proofs.put_all.Tie as tie
 
 abbrev Inv-loop : tie.InvT-loop
-Inv-loop s places count code₀ at₀ size₀ code at size = (at ≤ length s) × (length code ≡ 1280) × ((ds : List Declaration) → Items s 0 ds → Known s places count ds → AllShallowIn ds → Done s places count at code size ds)
+Inv-loop s list count code₀ at₀ size₀ code at size = (at ≤ length s) × (length code ≡ 1280) × ((ds : List Declaration) → Items s 0 ds → Known s list count ds → AllShallowIn ds → Done s list count at code size ds)
 
 abbrev μ-loop : tie.MeasureT-loop
-μ-loop s places count code₀ at₀ size₀ code at size = length s - at
+μ-loop s list count code₀ at₀ size₀ code at size = length s - at
 
 -- src/lib.rt:96:5
 loop-holds : tie.Need-loop-holds Inv-loop μ-loop

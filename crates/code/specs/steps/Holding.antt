@@ -1,5 +1,5 @@
 -- A buffer of 1,280 words that holds the front of a list; its size is counted up to 1,281, which stands for all that is longer. Assumes nothing.
-use Prim.Native.Nat.{ℕ, suc, _≤_, _<_, min}
+use Prim.Native.Nat.{ℕ, suc, _<_, min}
 use mathlib.Core.Path.{_≡_}
 use mathlib.Core.List.{List, _∷_, _++_}
 use lib.ListN.{length, getD}
@@ -18,11 +18,4 @@ pub record Emits (c before : List ℕ) (size : ℕ) (after : List ℕ) (grown : 
 -- a word is put between two lists
 pub record Inserts (before : List ℕ) (size at w : ℕ) (after : List ℕ) (grown : ℕ) : Type 0 where
   pub holds : (l m : List ℕ) → Sized at l → Holds before size (l ++ m) → Holds after grown (l ++ (w ∷ m))
-  pub kept : length after ≡ length before
-
--- the words behind low, up to high, have moved on by one
-pub record Shifted (before after : List ℕ) (low high : ℕ) : Type 0 where
-  pub left : (j : ℕ) → j ≤ low → getD after j 0 ≡ getD before j 0
-  pub moved : (j : ℕ) → low ≤ j → j < high → getD after (suc j) 0 ≡ getD before j 0
-  pub right : (j : ℕ) → high < j → getD after j 0 ≡ getD before j 0
   pub kept : length after ≡ length before

@@ -18,10 +18,10 @@ use Rattle.write.specs.steps.Code.{wordOf, codeOf, codeOfContent, codeOfAll}
 use Rattle.code.specs.steps.Holding.{Sized, Holds, Emits}
 
 -- the declared names are known
-pub record Known (t places : List ℕ) (count : ℕ) (ds : List Declaration) : Type 0 where
+pub record Known (t list : List ℕ) (count : ℕ) (ds : List Declaration) : Type 0 where
   pub all : length ds ≡ count
   pub few : count ≤ 256
-  pub listed : Listed t ds places
+  pub listed : Listed t ds list count
   pub short : length t ≤ 65536
 
 -- within the text, whatever it is
@@ -36,17 +36,17 @@ Shallow depth p = (place : ℕ) → ¬ DeepAt p depth place
 abbrev pub AllShallow : ℕ → Particles → Type 0
 AllShallow depth ps = (place : ℕ) → ¬ DeepIn ps depth place
 
-pub record ParticlePut (t places : List ℕ) (count depth at : ℕ) (before : List ℕ) (size : ℕ) (after : List ℕ) (end grown : ℕ) : Type 0 where
+pub record ParticlePut (t list : List ℕ) (count depth at : ℕ) (before : List ℕ) (size : ℕ) (after : List ℕ) (end grown : ℕ) : Type 0 where
   pub ends : Ends t at end before after
-  pub of : (ds : List Declaration) → Known t places count ds → (p : Particle) (e : ℕ) → Cp t at e p → After t e → Shallow depth p
+  pub of : (ds : List Declaration) → Known t list count ds → (p : Particle) (e : ℕ) → Cp t at e p → After t e → Shallow depth p
       → (end ≡ e) × Emits (codeOf (numberOf ds) (modelOf p)) before size after grown
 
 -- the inside of a group
-pub record GroupPut (t places : List ℕ) (count depth at : ℕ) (before : List ℕ) (size : ℕ) (after : List ℕ) (end grown : ℕ) : Type 0 where
+pub record GroupPut (t list : List ℕ) (count depth at : ℕ) (before : List ℕ) (size : ℕ) (after : List ℕ) (end grown : ℕ) : Type 0 where
   pub ends : Ends t at end before after
-  pub choices : (ds : List Declaration) → Known t places count ds → (p : Particle) (ps : Particles) (e : ℕ) → Row t (code "|") at e (more p ps)
+  pub choices : (ds : List Declaration) → Known t list count ds → (p : Particle) (ps : Particles) (e : ℕ) → Row t (code "|") at e (more p ps)
       → AllShallow depth (more p ps) → (end ≡ e) × Emits (codeOf (numberOf ds) (eitherOf (modelsOf (more p ps)))) before size after grown
-  pub sequences : (ds : List Declaration) → Known t places count ds → (ps : Particles) (e : ℕ) → Row t (code ",") at e ps
+  pub sequences : (ds : List Declaration) → Known t list count ds → (ps : Particles) (e : ℕ) → Row t (code ",") at e ps
       → AllShallow depth ps → (end ≡ e) × Emits (codeOf (numberOf ds) (inOrderOf (modelsOf ps))) before size after grown
 
 -- a mark behind a model whose code begins at start
@@ -61,9 +61,9 @@ pub data CloseRead (t : List ℕ) : ℕ → ℕ → Type 0 where
   left : {a : ℕ} → ¬ Byte t a (code ")") → CloseRead t a a
 
 -- a name
-pub record NamePut (t places : List ℕ) (count at : ℕ) (before : List ℕ) (size : ℕ) (after : List ℕ) (end grown : ℕ) : Type 0 where
+pub record NamePut (t list : List ℕ) (count at : ℕ) (before : List ℕ) (size : ℕ) (after : List ℕ) (end grown : ℕ) : Type 0 where
   pub ends : Ends t at end before after
-  pub of : (ds : List Declaration) → Known t places count ds → (n : List ℕ) (e : ℕ) → Name t at e n → ¬ Of isNameByte t e
+  pub of : (ds : List Declaration) → Known t list count ds → (n : List ℕ) (e : ℕ) → Name t at e n → ¬ Of isNameByte t e
       → (end ≡ e) × Emits (wordOf 0 (numberOf ds n) ∷ []) before size after grown
 
 -- the particles behind a row's first one, from the byte behind that and its white space on
@@ -81,9 +81,9 @@ codesOf number [] = []
 codesOf number (p ∷ qs) = codeOf number (modelOf p) ++ codesOf number qs
 
 -- the rest of a row, and the word of its operator before all of its operands
-pub record RestPut (t places : List ℕ) (count depth at start s kind : ℕ) (before : List ℕ) (size : ℕ) (after : List ℕ) (end grown : ℕ) : Type 0 where
+pub record RestPut (t list : List ℕ) (count depth at start s kind : ℕ) (before : List ℕ) (size : ℕ) (after : List ℕ) (end grown : ℕ) : Type 0 where
   pub ends : Ends t at end before after
-  pub of : (ds : List Declaration) → Known t places count ds → (c : List ℕ) (qs : List Particle) (e : ℕ) → RowRest t s at e qs → EachShallow depth qs
+  pub of : (ds : List Declaration) → Known t list count ds → (c : List ℕ) (qs : List Particle) (e : ℕ) → RowRest t s at e qs → EachShallow depth qs
       → (end ≡ e) × ((l : List ℕ) → Sized start l → Holds before size (l ++ c)
       → Holds after grown (l ++ ((kind + suc (length qs)) ∷ (c ++ codesOf (numberOf ds) qs))))
 
@@ -100,8 +100,8 @@ ShallowIn (is-any at) = Unit {0}
 ShallowIn (is-mixed at us) = Unit {0}
 ShallowIn (is-children p) = Shallow 16 p
 
-pub record ContentPut (t places : List ℕ) (count at : ℕ) (before : List ℕ) (size : ℕ) (after : List ℕ) (grown : ℕ) : Type 0 where
-  pub of : (ds : List Declaration) → Known t places count ds → (x : Content) (e : ℕ) → Spec t at e x → After t e → ShallowIn x
+pub record ContentPut (t list : List ℕ) (count at : ℕ) (before : List ℕ) (size : ℕ) (after : List ℕ) (grown : ℕ) : Type 0 where
+  pub of : (ds : List Declaration) → Known t list count ds → (x : Content) (e : ℕ) → Spec t at e x → After t e → ShallowIn x
       → Emits (codeOfContent (numberOf ds) x) before size after grown
   pub kept : length after ≡ length before
 
@@ -110,6 +110,6 @@ abbrev pub AllShallowIn : List Declaration → Type 0
 AllShallowIn [] = Unit {0}
 AllShallowIn (d ∷ ds) = ShallowIn (d .content) × AllShallowIn ds
 
-pub record AllPut (t places : List ℕ) (count : ℕ) (after : List ℕ) (size : ℕ) : Type 0 where
+pub record AllPut (t list : List ℕ) (count : ℕ) (after : List ℕ) (size : ℕ) : Type 0 where
   pub kept : length after ≡ 1280
-  pub of : (ds : List Declaration) → Items t 0 ds → Known t places count ds → AllShallowIn ds → Holds after size (codeOfAll (numberOf ds) ds)
+  pub of : (ds : List Declaration) → Items t 0 ds → Known t list count ds → AllShallowIn ds → Holds after size (codeOfAll (numberOf ds) ds)

@@ -13,14 +13,14 @@ use Rattle.dtd.specs.steps.Last.{Small}
 abbrev pub declarations : {t : List ℕ} → Read t → List Declaration
 declarations r = r .head ∷ r .tail
 
--- the places of its declared names
-pub record Collected (t places : List ℕ) (count : ℕ) : Type 0 where
+-- the list of its declared names
+pub record Collected (t list : List ℕ) (count : ℕ) : Type 0 where
   pub read : Read t
-  pub known : Known t places count (declarations read)
+  pub known : Known t list count (declarations read)
 
 -- and its code
-pub record Encoded (t places : List ℕ) (count : ℕ) (code : List ℕ) : Type 0 where
-  pub collected : Collected t places count
+pub record Encoded (t list : List ℕ) (count : ℕ) (code : List ℕ) : Type 0 where
+  pub collected : Collected t list count
   pub coded : Coded (declarations (collected .read)) code
 
 -- a table that can be written

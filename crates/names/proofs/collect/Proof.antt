@@ -1,4 +1,4 @@
--- The loop keeps that the declarations so far are counted, their names' places listed, and the rest is left. Assumes nothing.
+-- The loop keeps that the declarations so far are counted, their names listed, and the rest is left. Assumes nothing.
 use borrow.Author.Needs.{needs}
 use Prim.Native.Nat.{_-_, _≤_}
 use native.Mathlib.Omega.{arith}
@@ -8,20 +8,22 @@ use mathlib.Core.List.{List}
 use lib.ListN.{length}
 use Rattle.grammar.specs.Tree.{Declaration}
 use Rattle.grammar.specs.Grammar.{Items}
-use Rattle.names.proofs.Gone.{Gone, gone-start, gone-step, gone-more, gone-all, ListedTo, listed-none, listed-more, listed-all}
+use Rattle.names.specs.steps.Names.{Listed}
+use Rattle.names.proofs.Listing.{listed-none}
+use Rattle.names.proofs.Gone.{Gone, gone-start, gone-step, gone-more, gone-all, listed-more}
 use Rattle.names.proofs.collect.Statement.{statement}
 use Rattle.names.proofs.collect.Tie as tie
 
 abbrev Inv-loop : tie.InvT-loop
-Inv-loop s places₀ at₀ count₀ places at count =
-    (at ≤ length s) × (count ≤ at) × (length places ≡ 256)
-    × ((ds : List Declaration) → Items s 0 ds → length s ≤ 65536 → Gone s ds count at × ListedTo s ds places count)
+Inv-loop s list₀ at₀ count₀ list at count =
+    (at ≤ length s) × (count ≤ at) × (length list ≡ 512)
+    × ((ds : List Declaration) → Items s 0 ds → length s ≤ 65536 → Gone s ds count at × (count ≤ 256 → Listed s ds list count))
 
 abbrev μ-loop : tie.MeasureT-loop
-μ-loop s places₀ at₀ count₀ places at count = length s - at
+μ-loop s list₀ at₀ count₀ list at count = length s - at
 
 loop-holds : tie.Need-loop-holds Inv-loop μ-loop
-loop-holds c = (omega arith, omega arith, c .before .pre, λ ds x l. (gone-start x, listed-none))
+loop-holds c = (omega arith, omega arith, c .before .pre, λ ds x l. (gone-start x, λ h. listed-none))
 
 declaration-from-requires : tie.Need-declaration-from-requires Inv-loop μ-loop
 declaration-from-requires c κs = tt
@@ -29,8 +31,8 @@ declaration-from-requires c κs = tt
 enum-known-name : tie.Need-enum-known-name Inv-loop μ-loop
 enum-known-name c = search needs
 
-put-requires : tie.Need-put-requires Inv-loop μ-loop
-put-requires c κs = c .before .before .before .before .before .loop .inv .2
+enter-requires : tie.Need-enter-requires Inv-loop μ-loop
+enter-requires c κs = c .before .before .before .before .before .loop .inv .2
 
 place-behind-requires : tie.Need-place-behind-requires Inv-loop μ-loop
 place-behind-requires c κs = tt
@@ -50,7 +52,7 @@ loop-again c =
     let l = v .before .before .before .loop in
     let x = rw (v .name .given .1) at (v .before .before .declaration-from .ensures) in
     let b = c .place-behind .ensures in
-    let p = c .before .put .ensures in (
+    let p = c .before .enter .ensures in (
       b .inside (x .moved .1),
       omega (arith, l .inv .1, x .moved .0, b .from),
       p .size ∙ l .inv .2,
@@ -69,8 +71,7 @@ returns c =
     let x = rw (c .enum-told .given .1) at (c .before .before .declaration-from .ensures) in
     record {
       of = λ ds y small. (let g = l .inv .3 ds y small in
-          let n = gone-all (g .0) x in
-          (n, listed-all n (g .1)));
+          (gone-all (g .0) x, g .1));
     }
 
 pub collect-spec : {M : Type 1} → statement M
@@ -82,7 +83,7 @@ collect-spec =
     loop-holds
     declaration-from-requires
     enum-known-name
-    put-requires
+    enter-requires
     place-behind-requires
     add-count
     loop-less

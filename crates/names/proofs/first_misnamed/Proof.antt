@@ -14,11 +14,11 @@ use Rattle.names.proofs.first_misnamed.Statement.{statement}
 use Rattle.names.proofs.first_misnamed.Tie as tie
 
 abbrev Inv-loop : tie.InvT-loop
-Inv-loop s places count at₀ m₀ at m =
-    (at ≤ length s) × (m ≤ at) × ((ds : List Declaration) → Items s 0 ds → Counted s ds places count → Gone s ds m at × Right ds m)
+Inv-loop s list count at₀ m₀ at m =
+    (at ≤ length s) × (m ≤ at) × ((ds : List Declaration) → Items s 0 ds → Counted s ds list count → Gone s ds m at × Right ds m)
 
 abbrev μ-loop : tie.MeasureT-loop
-μ-loop s places count at₀ m₀ at m = length s - at
+μ-loop s list count at₀ m₀ at m = length s - at
 
 loop-holds : tie.Need-loop-holds Inv-loop μ-loop
 loop-holds c = (omega arith, omega arith, λ ds x k. (gone-start x, right-start))

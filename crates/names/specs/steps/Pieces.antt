@@ -1,9 +1,8 @@
 -- What the readers of the parts of a declaration say of a text that is of the grammar. Assumes nothing.
-use Prim.Native.Nat.{ℕ, _≤_, _<_}
+use Prim.Native.Nat.{ℕ, _≤_}
 use mathlib.Core.Path.{_≡_}
-use mathlib.Core.Logic.{_≢_}
 use mathlib.Core.List.{List, _∷_}
-use lib.ListN.{length, getD}
+use lib.ListN.{length}
 use Rattle.grammar.specs.Bytes.{isNameByte, Of, Span}
 use Rattle.grammar.specs.Tree.{Declaration}
 use Rattle.grammar.specs.Grammar.{Element, Remark, Items}
@@ -25,9 +24,3 @@ pub record RemarkRead (t : List ℕ) (a e : ℕ) : Type 0 where
 pub record ElementRead (t : List ℕ) (a : ℕ) (r : Next) : Type 0 where
   pub of : (b : ℕ) (d : Declaration) (ds : List Declaration) → Element t a b d → Items t b ds → NextOf t (d ∷ ds) r
   pub moved : Moved t a r
-
--- p is written at i, where both are small enough, and nothing else
-pub record Put (l m : List ℕ) (i p : ℕ) : Type 0 where
-  pub size : length m ≡ length l
-  pub there : i < 256 → p < 65536 → getD m i 0 ≡ p
-  pub kept : (j : ℕ) → j ≢ i → getD m j 0 ≡ getD l j 0

@@ -13,11 +13,11 @@ use Rattle.names.specs.steps.Names.{Listed}
 use Rattle.table.specs.declared.Found.{Found}
 use Rattle.table.specs.declared.Found.the-variants.{At, Nothing}
 
--- the declarations are counted, at most 256 of them, and their names' places listed
-pub record Counted (t : List ℕ) (ds : List Declaration) (places : List ℕ) (count : ℕ) : Type 0 where
+-- the declarations are counted, at most 256 of them, and their names listed
+pub record Counted (t : List ℕ) (ds : List Declaration) (list : List ℕ) (count : ℕ) : Type 0 where
   pub size : length ds ≡ count
   pub few : count ≤ 256
-  pub listed : Listed t ds places
+  pub listed : Listed t ds list count
 
 -- the lowest place of which P holds, or none
 abbrev pub Lowest : (ℕ → Type 0) → Found → Type 0
@@ -38,11 +38,11 @@ pub data Wrong (number : List ℕ → ℕ) (declared m : ℕ) (d : Declaration) 
   unknown : Unknown number declared (usesOf (d .content)) k → Wrong number declared m d k
 
 -- the first of the names from a up to '>'
-pub record UnknownRead (t places : List ℕ) (count a : ℕ) (r : Found) : Type 0 where
-  pub of : (ds : List Declaration) (us : List Use) (c : ℕ) → Flat t a c us → Byte t c (code ">") → Counted t ds places count
+pub record UnknownRead (t list : List ℕ) (count a : ℕ) (r : Found) : Type 0 where
+  pub of : (ds : List Declaration) (us : List Use) (c : ℕ) → Flat t a c us → Byte t c (code ">") → Counted t ds list count
       → Lowest (Unknown (numberOf ds) count us) r
 
 -- the first of a declaration's names
-pub record WrongRead (t places : List ℕ) (count m name body : ℕ) (r : Found) : Type 0 where
-  pub of : (ds : List Declaration) (d : Declaration) (rest : List Declaration) → DeclaredAt t d rest name body → Counted t ds places count
+pub record WrongRead (t list : List ℕ) (count m name body : ℕ) (r : Found) : Type 0 where
+  pub of : (ds : List Declaration) (d : Declaration) (rest : List Declaration) → DeclaredAt t d rest name body → Counted t ds list count
       → Lowest (Wrong (numberOf ds) count m d) r

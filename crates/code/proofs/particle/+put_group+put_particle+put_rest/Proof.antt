@@ -410,13 +410,13 @@ put-particle-returns-3 t c =
     particle-named (no-told (p .before .before .before .is .ensures) (p .before .before .if1 .left)) (p .put-name .ensures) (c .put-mark2 .ensures)
 
 abbrev put-rest-Inv-loop : put-rest-lts.InvT-loop
-put-rest-Inv-loop s at depth places count code₀ size start separator kind i₀ n₀ end₀ code i n end =
+put-rest-Inv-loop s at depth list count code₀ size start separator kind i₀ n₀ end₀ code i n end =
     (at ≤ i) × (i ≤ length s) × (n + at ≤ suc i) × (length code ≡ 1280)
-    × ((ds : List Declaration) → Known s places count ds → (qs : List Particle) (e : ℕ) → RowRest s separator at e qs → EachShallow depth qs
-    → Progress s places depth at separator code₀ size ds qs e i n code end)
+    × ((ds : List Declaration) → Known s list count ds → (qs : List Particle) (e : ℕ) → RowRest s separator at e qs → EachShallow depth qs
+    → Progress s list depth at separator code₀ size ds qs e i n code end)
 
 abbrev put-rest-μ-loop : put-rest-lts.MeasureT-loop
-put-rest-μ-loop s at depth places count code₀ size start separator kind i₀ n₀ end₀ code i n end = length s - i
+put-rest-μ-loop s at depth list count code₀ size start separator kind i₀ n₀ end₀ code i n end = length s - i
 
 -- src/particle.rt:106:5
 put-rest-loop-holds : (t : ℕ) → put-rest-lts.Need-loop-holds (

@@ -12,10 +12,10 @@ use Rattle.names.proofs.misnamed.first_unknown.Statement.{statement}
 use Rattle.names.proofs.misnamed.first_unknown.Tie as tie
 
 abbrev Inv-loop : tie.InvT-loop
-Inv-loop s places count at i₀ i = (r : Found) → UnknownRead s places count i r → UnknownRead s places count at r
+Inv-loop s list count at i₀ i = (r : Found) → UnknownRead s list count i r → UnknownRead s list count at r
 
 abbrev μ-loop : tie.MeasureT-loop
-μ-loop s places count at i₀ i = length s - i
+μ-loop s list count at i₀ i = length s - i
 
 loop-holds : tie.Need-loop-holds Inv-loop μ-loop
 loop-holds c = λ r x. x
