@@ -10,6 +10,7 @@ use names::walk::Next;
 use names::walk::declaration_from;
 use names::walk::place_behind;
 use scan::bytes::is;
+use table::words::lesser;
 
 mod content;
 mod particle;
@@ -34,7 +35,7 @@ fn shift(code: &mut [u32; 1280], low: usize, high: usize)
 }
 
 // One more, up to 1,281.
-pub fn more(size: usize) -> usize
+pub(crate) fn more(size: usize) -> usize
     ensures { λ r. ⌜ r ≡ min (suc size) 1281 ⌝ }
 {
     if size < 1281 {
@@ -44,25 +45,16 @@ pub fn more(size: usize) -> usize
 }
 
 // Puts a word between the words before a place and those behind it, and answers the new size; words that do not fit are dropped.
-pub fn insert(code: &mut [u32; 1280], size: usize, at: usize, w: u32) -> usize
+pub(crate) fn insert(code: &mut [u32; 1280], size: usize, at: usize, w: u32) -> usize
     requires { ⌜ length (now code) ≡ 1280 ⌝ }
     ensures { λ r. ⌜ Inserts (now (code .entry)) size at w (now (code .exit)) r ⌝ }
 {
     if at >= 1280 {
         return more(size);
     }
-    shift(code, at, least(size, 1279));
+    shift(code, at, lesser(size, 1279));
     code[at] = w;
     more(size)
-}
-
-pub fn least(a: usize, b: usize) -> usize
-    ensures { λ r. ⌜ r ≡ min a b ⌝ }
-{
-    if a < b {
-        return a;
-    }
-    b
 }
 
 // Where reading ended, and how many words the code has.
@@ -72,7 +64,13 @@ pub struct Put {
 }
 
 // A mark, put before the model whose code begins at start.
-pub fn put_mark(s: &[u8], at: usize, code: &mut [u32; 1280], size: usize, start: usize) -> Put
+pub(crate) fn put_mark(
+    s: &[u8],
+    at: usize,
+    code: &mut [u32; 1280],
+    size: usize,
+    start: usize,
+) -> Put
     requires { ⌜ (at ≤ length (now s)) × (length (now code) ≡ 1280) ⌝ }
     ensures { λ r. ⌜ MarkPut (now (s .entry)) at start (now (code .entry)) size (now (code .exit)) (r .at) (r .size) ⌝ }
 {

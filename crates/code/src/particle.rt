@@ -6,13 +6,13 @@ ghost use Rattle.grammar.proofs.Unique.{Separator};
 ghost use Rattle.code.specs.steps.Putting.{CloseRead, NamePut, ParticlePut, GroupPut, RestPut};
 use crate::Put;
 use crate::insert;
-use crate::least;
 use crate::more;
 use crate::put_mark;
 use names::list::number;
 use names::walk::name_end;
 use scan::bytes::is;
 use scan::piece::blanks;
+use table::words::lesser;
 
 // The words of a choice and of a sequence: their kinds, 4 and 3.
 const CHOICE: u32 = 262144;
@@ -38,7 +38,7 @@ fn put_name(
             size: more(size),
         };
     }
-    let n = least(number(s, list, count, at), 65535) as u32;
+    let n = lesser(number(s, list, count, at), 65535) as u32;
     Put {
         at: e,
         size: insert(code, size, size, n),
@@ -132,7 +132,7 @@ fn put_rest(
         n += 1;
         end = p.size;
     }
-    let w = kind + (least(n, 65535) as u32);
+    let w = kind + (lesser(n, 65535) as u32);
     Put {
         at: behind(s, i),
         size: insert(code, end, start, w),

@@ -22,8 +22,8 @@ use Rattle.model.proofs.Shape.{table-length}
 use Rattle.table.specs.Words.{types as types-of}
 use Rattle.dtd.proofs.Finishing.{same-types}
 use Rattle.dtd.proofs.Lasting.{types-are}
-use Rattle.scan.specs.Scanned as scanned
-use Rattle.scan.specs.Scanned.{Stopped, Passed}
+use Rattle.scan.specs.steps.Scanned as scanned
+use Rattle.scan.specs.steps.Scanned.{Stopped, Passed}
 use Rattle.write.specs.steps.Code.{codeOfAll, Counted, untotalled, Written}
 use Rattle.code.specs.steps.Holding as holding
 use Rattle.code.specs.steps.Putting.{ShallowIn, AllShallowIn, AllPut}

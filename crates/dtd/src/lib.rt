@@ -4,7 +4,7 @@ ghost use mathlib.Core.Path.{_≡_};
 ghost use mathlib.Core.List.{List};
 ghost use lib.ListN.{length};
 ghost use Rattle.grammar.specs.Tree.{Declaration};
-ghost use Rattle.scan.specs.Scanned.{Read};
+ghost use Rattle.scan.specs.steps.Scanned.{Read};
 ghost use Rattle.model.specs.Tables.{tableOf};
 ghost use Rattle.dtd.specs.Answer.{DtdAnswer};
 ghost use Rattle.dtd.specs.steps.Last.{Last};

@@ -15,7 +15,8 @@ use Rattle.grammar.proofs.Pieces.{clash, off, span-unique, literal-start, After
 use Rattle.grammar.proofs.Unique.{row-no-space}
 use Rattle.grammar.proofs.OneTree.{names-after, row-no-number-sign}
 use Rattle.scan.specs.steps.Readers.{BlanksRead}
-use Rattle.scan.proofs.Agreeing.{le-or-lt, span-le}
+use Rattle.grammar.proofs.Stopping.{le-or-lt}
+use Rattle.scan.proofs.Agreeing.{span-le}
 use Rattle.names.specs.steps.Walk.{DeclaredAt}
 use Rattle.names.specs.steps.Pieces.{NameEnd}
 use Rattle.names.specs.steps.Uses.{Flat, at-end, no-use, a-use}

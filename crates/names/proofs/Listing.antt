@@ -8,7 +8,7 @@ use lib.ListN.{length, getD, set, length-set}
 use lib.Seq.{getD-set-same, getD-set-other}
 use Rattle.grammar.specs.Tree.{Declaration, Nth}
 use Rattle.model.specs.Tables.{numberOf}
-use Rattle.scan.proofs.Agreeing.{le-or-lt}
+use Rattle.grammar.proofs.Stopping.{le-or-lt}
 use Rattle.names.specs.steps.Walk.{NameAt}
 use Rattle.names.specs.steps.Order.{Upto}
 use Rattle.names.specs.steps.Names.{placeIn, numberAt, NoneBefore, FirstWith, Entry, Among, Listed, Ranked, Looked, found, missing, RankRead, BeforeRead, NumberRead, Entered}

@@ -4,7 +4,7 @@ use mathlib.Core.Path.{_≡_, refl, sym, ap}
 use mathlib.Core.Logic.{_≢_, _⊎_, inl, inr}
 use mathlib.Core.List.{List, [], _∷_}
 use native.Mathlib.Omega.{arith}
-use Rattle.scan.proofs.Agreeing.{le-or-lt}
+use Rattle.grammar.proofs.Stopping.{le-or-lt}
 use Rattle.names.specs.steps.Order.{Upto, ends, lower, alike}
 
 pub upto-self : (n : List ℕ) → Upto n n

@@ -6,7 +6,7 @@ use mathlib.Core.List.{List}
 use native.Mathlib.Omega.{arith}
 use lib.ListN.{length, getD, set, length-set}
 use lib.Seq.{getD-set-same, getD-set-other}
-use Rattle.scan.proofs.Agreeing.{le-or-lt}
+use Rattle.grammar.proofs.Stopping.{le-or-lt}
 use Rattle.names.specs.steps.Shifting.{Shifted}
 
 -- the words from i on are moved, on the way down to `low`

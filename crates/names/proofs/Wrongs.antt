@@ -8,7 +8,8 @@ use native.Mathlib.Omega.{arith}
 use lib.ListN.{length}
 use Rattle.grammar.specs.Tree.{Declaration, Nth, first, later, usesOf}
 use Rattle.grammar.specs.Grammar.{Element, element, Remark, ends, no-dash, one-dash, Items, a-space, a-comment, a-declaration}
-use Rattle.scan.proofs.Agreeing.{le-or-lt, span-le, literal-le}
+use Rattle.grammar.proofs.Stopping.{le-or-lt}
+use Rattle.scan.proofs.Agreeing.{span-le, literal-le}
 use Rattle.model.specs.Names.{Misnamed}
 use Rattle.model.specs.Tables.{numberOf}
 use Rattle.model.proofs.Numbers.{number-below}

@@ -9,11 +9,6 @@ use lib.ListN.{length, getD, take, drop, length-append, length-take, take-append
 use Rattle.grammar.specs.Bytes.{Byte, Of, Span, stop, go-on, Literal, done, byte}
 use Rattle.scan.specs.steps.Agree.{peek, Agree}
 
-pub le-or-lt : (a b : ℕ) → (a ≤ b) ⊎ (b < a)
-le-or-lt zero b = inl (omega arith)
-le-or-lt (suc a) zero = inr (omega arith)
-le-or-lt (suc a) (suc b) = elim (le-or-lt a b) [ inl h ↦ inl (omega arith) | inr h ↦ inr (omega arith) ]
-
 -- what stands at a place
 pub peek-byte : (t : List ℕ) (i : ℕ) → i < length t → peek t i ≡ suc (getD t i 0)
 peek-byte [] i l = absurd (omega arith)

@@ -19,7 +19,8 @@ use Rattle.scan.specs.steps.Claims.{WideIn, Inside, of-choice, of-sequen
 use Rattle.scan.specs.steps.Moves.{Exceeds, Free, Moves, Reads, bad, over}
 use Rattle.scan.specs.steps.Readers.{Differs, here, later}
 use Rattle.scan.specs.declared.Step.the-variants.{Bad, Over}
-use Rattle.scan.proofs.Agreeing.{le-or-lt, peek-byte, agree-sym, byte-local, span-le, literal-local}
+use Rattle.grammar.proofs.Stopping.{le-or-lt}
+use Rattle.scan.proofs.Agreeing.{peek-byte, agree-sym, byte-local, span-le, literal-local}
 use Rattle.scan.proofs.Moving.{Good, free-before, Goes, goes-on, stuck-here, exceeds-by, turn, step, with-map, with-never, good-then, good-or, Avoids, avoids-or}
 use Rattle.scan.proofs.Pieces.{good-literal, avoids-literal, good-blanks, good-maybe, name-lt, word-reads}
 use Rattle.scan.proofs.Orders.{names-le, names-low}

@@ -12,7 +12,8 @@ use Rattle.scan.specs.steps.Claims.{Mode, plain, limit, Claim, With, beh
 use Rattle.scan.specs.steps.Moves.{Exceeds, Free, Moves, Reads, got, bad, over}
 use Rattle.scan.specs.declared.Step.{Step}
 use Rattle.scan.specs.declared.Step.the-variants.{Bad}
-use Rattle.scan.proofs.Agreeing.{le-or-lt, agree-less, agree-on, agree-append, agree-take, literal-appended}
+use Rattle.grammar.proofs.Stopping.{le-or-lt}
+use Rattle.scan.proofs.Agreeing.{agree-less, agree-on, agree-append, agree-take, literal-appended}
 
 -- one after another
 pub free-on : {P Q : Claim} {t : List ℕ} {a b k : ℕ} → Moves P Q t a b → Free Q t b k → Free P t a k

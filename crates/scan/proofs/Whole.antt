@@ -13,7 +13,7 @@ use Rattle.grammar.specs.Stops.{Viable, Stops, at-byte, at-end}
 use Rattle.grammar.specs.Limits.{DeepAt, DeepIn, NameIn, declared-name, used-name, Holds, any-content, mixed-content, long-name, deep-group, long-text}
 use Rattle.grammar.specs.Limits as limits
 use Rattle.grammar.proofs.Stopping.{le-or-lt, viable-less, over-within}
-use Rattle.scan.specs.Scanned.{Stopped, Passed, Read, Scanned}
+use Rattle.scan.specs.steps.Scanned.{Stopped, Passed, Read, Scanned}
 use Rattle.scan.specs.steps.Agree.{peek, Agree}
 use Rattle.scan.specs.steps.Items.{Nothing, EndsAt, ItemsRead}
 use Rattle.scan.specs.steps.Readers.{placeOf}

@@ -1,3 +1,2 @@
--- What scanning a text answers, and under steps what its readers do.
-pub mod Scanned
+-- What scanning a text and its readers say.
 pub mod steps

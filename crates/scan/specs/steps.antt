@@ -1,4 +1,5 @@
--- What the readers of src/ say of a text from a place on.
+-- What scanning a whole text says, and what its readers say of a text from a place on.
+pub mod Scanned
 pub mod Agree
 pub mod Claims
 pub mod Moves

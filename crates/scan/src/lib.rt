@@ -1,5 +1,5 @@
-// Scanning DTD text: where it stops being the grammar, or passes a limit. Contracts cite specs/Scanned; the readers' own stand under specs/steps.
-ghost use Rattle.scan.specs.Scanned.{Scanned};
+// Scanning DTD text: where it stops being the grammar, or passes a limit. Contracts cite specs/steps.
+ghost use Rattle.scan.specs.steps.Scanned.{Scanned};
 ghost use Prim.Native.Nat.{min};
 ghost use mathlib.Core.Path.{_≡_};
 ghost use Rattle.scan.specs.steps.Readers.{placeOf};

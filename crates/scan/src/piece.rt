@@ -21,7 +21,7 @@ pub fn blanks(s: &[u8], at: usize) -> usize
 }
 
 // White space, one byte or more.
-pub fn space(s: &[u8], at: usize) -> Step
+pub(crate) fn space(s: &[u8], at: usize) -> Step
     requires { ⌜ at ≤ length (now s) ⌝ }
     ensures { λ r. ⌜ SpaceRead (now (s .entry)) at r ⌝ }
 {
@@ -42,7 +42,7 @@ pub fn mark(s: &[u8], at: usize) -> usize
 }
 
 // The bytes of a word, or the first place at which they do not stand.
-pub fn word(s: &[u8], at: usize, w: &[u8]) -> Step
+pub(crate) fn word(s: &[u8], at: usize, w: &[u8]) -> Step
     requires { ⌜ at ≤ length (now s) ⌝ }
     ensures { λ r. ⌜ WordRead (now (s .entry)) (now (w .entry)) at r ⌝ }
 {

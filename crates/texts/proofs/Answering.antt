@@ -16,8 +16,8 @@ use Rattle.grammar.specs.Grammar.{Text}
 use Rattle.grammar.proofs.OneTree.{one-tree}
 use Rattle.model.specs.Tables.{rulesOf, kidsOfAll, tableOf}
 use Rattle.table.proofs.Answers.{answer-accepted}
-use Rattle.scan.proofs.Agreeing.{le-or-lt}
-use Rattle.scan.specs.Scanned as scan
+use Rattle.grammar.proofs.Stopping.{le-or-lt}
+use Rattle.scan.specs.steps.Scanned as scan
 use Rattle.scan.specs.declared.Step.{Step}
 use Rattle.scan.specs.declared.Step.the-variants.{At, Bad, Over}
 use Rattle.names.specs.steps.Names.{FirstMisnamed}

@@ -14,7 +14,7 @@ use Rattle.model.specs.Tables.{numberOf}
 use Rattle.names.specs.steps.Names.{FirstMisnamed}
 use Rattle.names.specs.steps.Wrong.{Unknown, Wrong, again, unknown}
 use Rattle.names.proofs.Wrongs.{misnamed-wrong, wrong-misnamed}
-use Rattle.scan.proofs.Agreeing.{le-or-lt}
+use Rattle.grammar.proofs.Stopping.{le-or-lt}
 use Rattle.texts.proofs.Tests.{when, by-when}
 
 -- k is in the list

@@ -13,7 +13,7 @@ use lib.Seq.{take-all}
 use Rattle.table.proofs.Test.{isEqual, isAtMost}
 use Rattle.grammar.specs.Bytes.{ascii, isSpace, isMark, isNoDash, Byte, stop, go-on}
 use Rattle.grammar.proofs.Unique.{Separator, bar, comma}
-use Rattle.scan.specs.Scanned.{Scanned}
+use Rattle.scan.specs.steps.Scanned.{Scanned}
 use Rattle.scan.specs.steps.Claims.{Claim, BlanksThen, LiteralThen, NameThen, ParticleThen, RowThen, InsideThen, Closing, Opening, SpecThen, TextThen, GroupThen}
 use Rattle.scan.specs.steps.Claims.{Frame, first, behind, Rest, RestMarked, FromItems, FromEnd, FromNamed, FromElement, FromRemark, FromOpen, FromItem}
 use Rattle.scan.specs.steps.Moves.{Moves, Reads, got, bad, over}

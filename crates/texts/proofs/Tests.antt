@@ -15,7 +15,8 @@ use Rattle.scan.specs.steps.Agree.{peek}
 use Rattle.scan.specs.steps.Readers.{BlanksRead, SpaceRead, MaybeRead, taken, left, NameRead, here, WordRead}
 use Rattle.scan.specs.declared.Step.{Step}
 use Rattle.scan.specs.declared.Step.the-variants.{At, Bad, Over}
-use Rattle.scan.proofs.Agreeing.{le-or-lt, peek-byte, peek-end}
+use Rattle.grammar.proofs.Stopping.{le-or-lt}
+use Rattle.scan.proofs.Agreeing.{peek-byte, peek-end}
 use Rattle.scan.proofs.Told.{span-more, word-more}
 
 -- by the bit of a test

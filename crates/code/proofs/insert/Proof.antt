@@ -13,8 +13,8 @@ returns : tie.Need-returns
 returns c = drops (omega arith) (c .more .ensures)
 
 -- src/lib.rt:45:17
-least-requires : tie.Need-least-requires
-least-requires c κs = search needs
+lesser-requires : tie.Need-lesser-requires
+lesser-requires c κs = search needs
 
 -- src/lib.rt:45:5
 shift-requires : tie.Need-shift-requires
@@ -34,7 +34,7 @@ more-requires-2 c κs = search needs
 
 -- src/lib.rt:38:1
 returns-2 : tie.Need-returns-2
-returns-2 c = let a = c .before .before .before .before .before in inserts _ (c .before .before .least .ensures) (omega arith) (a .pre) (c .before .shift .ensures) (c .more2 .ensures)
+returns-2 c = let a = c .before .before .before .before .before in inserts _ (c .before .before .lesser .ensures) (omega arith) (a .pre) (c .before .shift .ensures) (c .more2 .ensures)
 
 pub insert-spec : {M : Type 1} → statement M
 insert-spec =
@@ -42,7 +42,7 @@ insert-spec =
     (tie.spec
     more-requires
     returns
-    least-requires
+    lesser-requires
     shift-requires
     mul-code
     element-write-code

@@ -4,7 +4,7 @@ use mathlib.Core.Path.{_≡_}
 use mathlib.Core.List.{List, _∷_}
 use lib.ListN.{length}
 use Rattle.grammar.specs.Tree.{Declaration}
-use Rattle.scan.specs.Scanned.{Read}
+use Rattle.scan.specs.steps.Scanned.{Read}
 use Rattle.write.specs.steps.Code.{Coded, Counted}
 use Rattle.code.specs.steps.Putting.{Known}
 use Rattle.dtd.specs.steps.Last.{Small}

@@ -24,7 +24,7 @@ use Rattle.code.proofs.particle.put_rest.Reads as put-rest
 use Rattle.code.proofs.particle.put_rest.Kinds as put-rest-kinds
 use Rattle.code.proofs.particle.+put_group+put_particle+put_rest.Lts-put_rest as put-rest-lts
 use Rattle.code.proofs.insert.Reads as insert-reads
-use Rattle.code.proofs.least.Reads as least-reads
+use Rattle.table.proofs.words.lesser.Reads as lesser-reads
 use Rattle.code.proofs.particle.behind.Reads as behind-reads
 use Rattle.code.proofs.particle.put_name.Reads as put-name-reads
 use Rattle.code.proofs.put_mark.Reads as put-mark-reads
@@ -426,8 +426,8 @@ put-rest-loop-holds : (t : ℕ) → put-rest-lts.Need-loop-holds (
   blanks-reads.Learnt,
   put-particle-below t,
   put-particle.Post,
-  least-reads.Asked,
-  least-reads.Learnt,
+  lesser-reads.Asked,
+  lesser-reads.Learnt,
   behind-reads.Asked,
   behind-reads.Learnt,
   insert-reads.Asked,
@@ -443,8 +443,8 @@ put-rest-is-requires : (t : ℕ) → put-rest-lts.Need-is-requires (
   blanks-reads.Learnt,
   put-particle-below t,
   put-particle.Post,
-  least-reads.Asked,
-  least-reads.Learnt,
+  lesser-reads.Asked,
+  lesser-reads.Learnt,
   behind-reads.Asked,
   behind-reads.Learnt,
   insert-reads.Asked,
@@ -460,8 +460,8 @@ put-rest-add-blanks : (t : ℕ) → put-rest-lts.Need-add-blanks (
   blanks-reads.Learnt,
   put-particle-below t,
   put-particle.Post,
-  least-reads.Asked,
-  least-reads.Learnt,
+  lesser-reads.Asked,
+  lesser-reads.Learnt,
   behind-reads.Asked,
   behind-reads.Learnt,
   insert-reads.Asked,
@@ -477,8 +477,8 @@ put-rest-blanks-requires : (t : ℕ) → put-rest-lts.Need-blanks-requires (
   blanks-reads.Learnt,
   put-particle-below t,
   put-particle.Post,
-  least-reads.Asked,
-  least-reads.Learnt,
+  lesser-reads.Asked,
+  lesser-reads.Learnt,
   behind-reads.Asked,
   behind-reads.Learnt,
   insert-reads.Asked,
@@ -494,8 +494,8 @@ put-rest-put-particle-requires : (t : ℕ) → put-rest-lts.Need-put-particle-re
   blanks-reads.Learnt,
   put-particle-below t,
   put-particle.Post,
-  least-reads.Asked,
-  least-reads.Learnt,
+  lesser-reads.Asked,
+  lesser-reads.Learnt,
   behind-reads.Asked,
   behind-reads.Learnt,
   insert-reads.Asked,
@@ -514,8 +514,8 @@ put-rest-blanks-requires-2 : (t : ℕ) → put-rest-lts.Need-blanks-requires-2 (
   blanks-reads.Learnt,
   put-particle-below t,
   put-particle.Post,
-  least-reads.Asked,
-  least-reads.Learnt,
+  lesser-reads.Asked,
+  lesser-reads.Learnt,
   behind-reads.Asked,
   behind-reads.Learnt,
   insert-reads.Asked,
@@ -531,8 +531,8 @@ put-rest-add-n : (t : ℕ) → put-rest-lts.Need-add-n (
   blanks-reads.Learnt,
   put-particle-below t,
   put-particle.Post,
-  least-reads.Asked,
-  least-reads.Learnt,
+  lesser-reads.Asked,
+  lesser-reads.Learnt,
   behind-reads.Asked,
   behind-reads.Learnt,
   insert-reads.Asked,
@@ -551,8 +551,8 @@ put-rest-loop-less : (t : ℕ) → put-rest-lts.Need-loop-less (
   blanks-reads.Learnt,
   put-particle-below t,
   put-particle.Post,
-  least-reads.Asked,
-  least-reads.Learnt,
+  lesser-reads.Asked,
+  lesser-reads.Learnt,
   behind-reads.Asked,
   behind-reads.Learnt,
   insert-reads.Asked,
@@ -572,8 +572,8 @@ put-rest-loop-again : (t : ℕ) → put-rest-lts.Need-loop-again (
   blanks-reads.Learnt,
   put-particle-below t,
   put-particle.Post,
-  least-reads.Asked,
-  least-reads.Learnt,
+  lesser-reads.Asked,
+  lesser-reads.Learnt,
   behind-reads.Asked,
   behind-reads.Learnt,
   insert-reads.Asked,
@@ -596,21 +596,21 @@ put-rest-loop-again t c =
     )
 
 -- src/particle.rt:112:21
-put-rest-least-requires : (t : ℕ) → put-rest-lts.Need-least-requires (
+put-rest-lesser-requires : (t : ℕ) → put-rest-lts.Need-lesser-requires (
   is-reads.Asked,
   is-reads.Learnt,
   blanks-reads.Asked,
   blanks-reads.Learnt,
   put-particle-below t,
   put-particle.Post,
-  least-reads.Asked,
-  least-reads.Learnt,
+  lesser-reads.Asked,
+  lesser-reads.Learnt,
   behind-reads.Asked,
   behind-reads.Learnt,
   insert-reads.Asked,
   insert-reads.Learnt,
 ) (put-rest-at t) put-rest.Post put-rest-Inv-loop put-rest-μ-loop
-put-rest-least-requires t c κs = tt
+put-rest-lesser-requires t c κs = tt
 
 -- src/particle.rt:112:21
 put-rest-cast-w : (t : ℕ) → put-rest-lts.Need-cast-w (
@@ -620,14 +620,14 @@ put-rest-cast-w : (t : ℕ) → put-rest-lts.Need-cast-w (
   blanks-reads.Learnt,
   put-particle-below t,
   put-particle.Post,
-  least-reads.Asked,
-  least-reads.Learnt,
+  lesser-reads.Asked,
+  lesser-reads.Learnt,
   behind-reads.Asked,
   behind-reads.Learnt,
   insert-reads.Asked,
   insert-reads.Learnt,
 ) (put-rest-at t) put-rest.Post put-rest-Inv-loop put-rest-μ-loop
-put-rest-cast-w t c = let z = c .least .ensures in omega arith
+put-rest-cast-w t c = let z = c .lesser .ensures in omega arith
 
 -- src/particle.rt:112:13
 put-rest-add-w : (t : ℕ) → put-rest-lts.Need-add-w (
@@ -637,14 +637,14 @@ put-rest-add-w : (t : ℕ) → put-rest-lts.Need-add-w (
   blanks-reads.Learnt,
   put-particle-below t,
   put-particle.Post,
-  least-reads.Asked,
-  least-reads.Learnt,
+  lesser-reads.Asked,
+  lesser-reads.Learnt,
   behind-reads.Asked,
   behind-reads.Learnt,
   insert-reads.Asked,
   insert-reads.Learnt,
 ) (put-rest-at t) put-rest.Post put-rest-Inv-loop put-rest-μ-loop
-put-rest-add-w t c = let z = c .least .ensures in let a = c .before .before .before .before .before .pre .1 .3 in omega arith
+put-rest-add-w t c = let z = c .lesser .ensures in let a = c .before .before .before .before .before .pre .1 .3 in omega arith
 
 -- src/particle.rt:113:15
 put-rest-behind-requires : (t : ℕ) → put-rest-lts.Need-behind-requires (
@@ -654,8 +654,8 @@ put-rest-behind-requires : (t : ℕ) → put-rest-lts.Need-behind-requires (
   blanks-reads.Learnt,
   put-particle-below t,
   put-particle.Post,
-  least-reads.Asked,
-  least-reads.Learnt,
+  lesser-reads.Asked,
+  lesser-reads.Learnt,
   behind-reads.Asked,
   behind-reads.Learnt,
   insert-reads.Asked,
@@ -671,8 +671,8 @@ put-rest-insert-requires : (t : ℕ) → put-rest-lts.Need-insert-requires (
   blanks-reads.Learnt,
   put-particle-below t,
   put-particle.Post,
-  least-reads.Asked,
-  least-reads.Learnt,
+  lesser-reads.Asked,
+  lesser-reads.Learnt,
   behind-reads.Asked,
   behind-reads.Learnt,
   insert-reads.Asked,
@@ -688,8 +688,8 @@ put-rest-returns : (t : ℕ) → put-rest-lts.Need-returns (
   blanks-reads.Learnt,
   put-particle-below t,
   put-particle.Post,
-  least-reads.Asked,
-  least-reads.Learnt,
+  lesser-reads.Asked,
+  lesser-reads.Learnt,
   behind-reads.Asked,
   behind-reads.Learnt,
   insert-reads.Asked,
@@ -701,7 +701,7 @@ put-rest-returns t c =
     let f = m .before in
     let l = f .before .before .loop in
     let a = f .before .before .before .before in
-    let z = m .least .ensures in
+    let z = m .lesser .ensures in
     record {
       ends = record { from = omega (arith, l .inv .0, close-le (h .behind .ensures)); inside = close-in (h .behind .ensures) (l .inv .1); kept = omega (arith, c .insert .ensures .kept, l .inv .3, a .pre .1 .1) };
       of = λ ds k d qs e r s. progress-ends (a .pre .1 .2) k (a .args .kind) d (no-told (f .before .is .ensures) (f .if1 .left)) (l .inv .1) (h .behind .ensures) (omega (arith, z)) (c .insert .ensures) (l .inv .4 ds k qs e r s);
@@ -765,8 +765,8 @@ pub +put-group+put-particle+put-rest-spec : {M : Type 1} → statement M
       blanks-reads.Learnt,
       put-particle-below t,
       put-particle.Post,
-      least-reads.Asked,
-      least-reads.Learnt,
+      lesser-reads.Asked,
+      lesser-reads.Learnt,
       behind-reads.Asked,
       behind-reads.Learnt,
       insert-reads.Asked,
@@ -785,7 +785,7 @@ pub +put-group+put-particle+put-rest-spec : {M : Type 1} → statement M
     (put-rest-add-n t)
     (put-rest-loop-less t)
     (put-rest-loop-again t)
-    (put-rest-least-requires t)
+    (put-rest-lesser-requires t)
     (put-rest-cast-w t)
     (put-rest-add-w t)
     (put-rest-behind-requires t)

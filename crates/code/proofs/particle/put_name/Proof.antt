@@ -21,8 +21,8 @@ number-requires : tie.Need-number-requires
 number-requires c κs = search needs
 
 -- src/particle.rt:31:13
-least-requires : tie.Need-least-requires
-least-requires c κs = search needs
+lesser-requires : tie.Need-lesser-requires
+lesser-requires c κs = search needs
 
 -- src/particle.rt:31:13
 cast-n : tie.Need-cast-n
@@ -35,7 +35,7 @@ insert-requires c κs = search needs
 -- src/particle.rt:23:1
 returns-2 : tie.Need-returns-2
 returns-2 c =
-    let z = c .before .before .least .ensures in
+    let z = c .before .before .lesser .ensures in
     name-put (c .before .before .before .before .before .before .before .pre .0) (c .before .before .before .before .before .name-end .ensures) (c .before .before .before .number .ensures) (λ h. omega (arith, z)) (c .insert .ensures)
 
 pub put-name-spec : {M : Type 1} → statement M
@@ -46,7 +46,7 @@ put-name-spec =
     more-requires
     returns
     number-requires
-    least-requires
+    lesser-requires
     cast-n
     insert-requires
     returns-2)
