@@ -1,24 +1,33 @@
-// Measures the five calls of the proved library against the second program and against `fast`. bench/run builds and runs it; the modes:
-//   check               reads a stream of cases (second/README.md) and compares all three makes
+// Measures the six calls of the proved library, five of them against the second program and against `fast`. bench/run builds and runs it; the modes:
+//   check               reads a stream of cases (second/README.md) and compares all makes
 //   time                nanoseconds a call
 //   growth              the same for tables that double
 //   stack               bytes of stack
+//   texts               nanoseconds a call of read_dtd, a line for each text
+//   lengths             nanoseconds a byte of texts that double
+//   documents FOLDER    writes a document for each text, for another parser
 //   list                what is measured: CALL INPUT and the number of its cases
 //   tables              the inputs of `growth`
 //   count MAKE CALL INPUT TIMES   makes a call on an input so many times, to be counted from outside
 
 mod calls;
+mod dtd;
 mod fast;
 mod inputs;
 mod plain;
 #[path = "../bindings/rust/src/border.rs"]
 mod proved;
+mod rounds;
 mod stack;
+mod texts;
 
-use calls::{run, Call, Case, Make, CALLS, MAKES};
+use calls::{run, Call, Case, Make, Outcome, CALLS, MAKES};
 use inputs::{doubling, inputs, Input};
+use rounds::rounds;
+use stack::stack_of;
+use std::fmt::Debug;
 use std::io::Read;
-use std::time::{Duration, Instant};
+use std::time::Duration;
 
 fn fail(what: &str) -> ! {
     eprintln!("bench: {}", what);
@@ -27,37 +36,43 @@ fn fail(what: &str) -> ! {
 
 // ---------------------------------------------------------------- equal answers
 
+/// The makes tell the same as the second program.
+fn compare<T: Debug + PartialEq>(makes: &[Make], told: impl Fn(&Make) -> T, call: &str, at: &str) {
+    let second = told(&MAKES[2]);
+    for make in makes {
+        let other = told(make);
+        if other != second {
+            eprintln!("second {:?}\n{} {:?}", second, make.name, other);
+            fail(&format!("{} of {} differs at {}", call, make.name, at));
+        }
+    }
+}
+
 /// All makes give the same outcome and leave the same result.
-fn compare(case: &Case, call: Call, name: &str) {
+fn compare_on(case: &Case, call: Call, at: &str) {
     let told = |make: &Make| {
         let mut lent = case.clone();
         (run(make, call, &mut lent), lent.out)
     };
-    let second = told(&MAKES[2]);
-    for make in &MAKES[..2] {
-        let other = told(make);
-        if other != second {
-            eprintln!("second {:?}\n{} {:?}", second, make.name, other);
-            fail(&format!("{} of {} differs at {}", call.name(), make.name, name));
-        }
-    }
+    compare(&MAKES[..2], told, call.name(), at);
 }
 
 fn check() {
     let mut stream = Vec::new();
     std::io::stdin().read_to_end(&mut stream).unwrap_or_else(|_| fail("cannot read the input"));
-    let cases = plain::cases_of(&stream);
+    let (cases, texts) = plain::cases_of(&stream);
     for (k, case) in cases.iter().enumerate() {
-        CALLS.iter().for_each(|&call| compare(case, call, &format!("case {}", k)));
+        CALLS.iter().for_each(|&call| compare_on(case, call, &format!("case {}", k)));
     }
     let mut own = 0;
     for call in CALLS {
         for input in inputs(call).iter().chain(&doubling(call)) {
-            input.cases.iter().for_each(|case| compare(case, call, &input.name));
+            input.cases.iter().for_each(|case| compare_on(case, call, &input.name));
             own += input.cases.len();
         }
     }
     println!("equal: {} cases with five calls each, and {} measured calls", cases.len(), own);
+    println!("equal: {} DTD texts, and {} measured ones", texts.len(), dtd::check(&texts));
 }
 
 // ---------------------------------------------------------------- time
@@ -68,37 +83,12 @@ fn run_all(make: &Make, call: Call, cases: &mut [Case]) {
     }
 }
 
-/// Nanoseconds a call, of so many turns.
-fn turns(make: &Make, call: Call, cases: &mut [Case], times: usize) -> f64 {
-    let start = Instant::now();
-    for _ in 0..times {
-        run_all(make, call, cases);
-    }
-    start.elapsed().as_nanos() as f64 / (times * cases.len()) as f64
-}
-
-/// How many turns take about 0.2 ms.
-fn turns_for(make: &Make, call: Call, cases: &mut [Case]) -> usize {
-    let one = turns(make, call, cases, 1).min(turns(make, call, cases, 1)) * cases.len() as f64;
-    (200_000.0 / one).clamp(1.0, 20_000.0) as usize
-}
-
-/// The least and the median of many rounds, for each make; the makes take turns, so that a noisy time meets all of them.
+/// The least and the median of the rounds, for each make, in nanoseconds a call.
 fn measure(makes: &[Make], call: Call, input: &Input, budget: Duration) -> Vec<(f64, f64)> {
     let mut cases = input.cases.clone();
-    let times: Vec<usize> = makes.iter().map(|make| turns_for(make, call, &mut cases)).collect();
-    let mut rounds = vec![Vec::new(); makes.len()];
-    let start = Instant::now();
-    while rounds[0].len() < 3 || (start.elapsed() < budget && rounds[0].len() < 2000) {
-        for (m, make) in makes.iter().enumerate() {
-            rounds[m].push(turns(make, call, &mut cases, times[m]));
-        }
-    }
-    let least_and_median = |mut times: Vec<f64>| {
-        times.sort_by(f64::total_cmp);
-        (times[0], times[times.len() / 2])
-    };
-    rounds.into_iter().map(least_and_median).collect()
+    let each = cases.len() as f64;
+    let found = rounds(makes.len(), |m| run_all(&makes[m], call, &mut cases), budget);
+    found.into_iter().map(|(least, median)| (least / each, median / each)).collect()
 }
 
 fn time() {
@@ -135,12 +125,18 @@ fn growth() {
 
 // ---------------------------------------------------------------- stack and instructions
 
+fn nothing(_: &[u16]) -> Outcome {
+    Outcome::default()
+}
+
 fn most_stack(make: &Make, call: Call) -> usize {
+    let empty = Make { name: "", check_table: nothing, ..*make };
+    let on = |make, call| move |case: &mut Case| run(make, call, case);
     let cases = |input: Input| input.cases;
     inputs(call)
         .into_iter()
         .flat_map(cases)
-        .map(|case| stack::stack_of(make, call, &case))
+        .map(|case| stack_of(on(make, call), on(&empty, Call::CheckTable), &case))
         .max()
         .unwrap_or(0)
 }
@@ -154,6 +150,7 @@ fn stacks() {
             MAKES.iter().map(|make| most_stack(make, call).to_string()).collect();
         println!("| {} | {} |", call.name(), found.join(" | "));
     }
+    println!("| {} | {} |", dtd::NAME, MAKES.each_ref().map(dtd::most_stack).join(" | "));
 }
 
 fn list() {
@@ -162,21 +159,32 @@ fn list() {
             println!("{} {} {}", call.name(), input.name, input.cases.len());
         }
     }
+    dtd::list();
 }
 
 fn tables() {
     doubling(Call::CheckTable).iter().for_each(|input| println!("{}", input.name));
 }
 
+// Never a part of `main`, so that its loop is compiled alike whatever modes there are.
+#[inline(never)]
 fn count(make: &str, call: &str, input: &str, times: &str) {
-    let make = MAKES.iter().find(|it| it.name == make).unwrap_or_else(|| fail("no such make"));
+    let make = make_of(make);
     let call = CALLS.into_iter().find(|it| it.name() == call).unwrap_or_else(|| fail("no such call"));
     let mut all = inputs(call).into_iter().chain(doubling(call));
     let input = all.find(|it| it.name == input).unwrap_or_else(|| fail("no such input"));
     let mut cases = input.cases;
-    for _ in 0..times.parse().unwrap_or_else(|_| fail("TIMES is a number")) {
+    for _ in 0..times_of(times) {
         run_all(make, call, &mut cases);
     }
+}
+
+fn make_of(name: &str) -> &'static Make {
+    MAKES.iter().find(|it| it.name == name).unwrap_or_else(|| fail("no such make"))
+}
+
+fn times_of(text: &str) -> usize {
+    text.parse().unwrap_or_else(|_| fail("TIMES is a number"))
 }
 
 fn main() {
@@ -187,9 +195,15 @@ fn main() {
         ["time"] => time(),
         ["growth"] => growth(),
         ["stack"] => stacks(),
+        ["texts"] => dtd::time(),
+        ["lengths"] => dtd::growth(),
+        ["documents", folder] => dtd::documents(folder),
         ["list"] => list(),
         ["tables"] => tables(),
+        ["count", make, dtd::NAME, text, times] => dtd::count(make, text, times),
         ["count", make, call, input, times] => count(make, call, input, times),
-        _ => fail("modes: check | time | growth | stack | list | tables | count MAKE CALL INPUT TIMES"),
+        _ => fail(
+            "modes: check | time | growth | stack | texts | lengths | documents FOLDER | list | tables | count MAKE CALL INPUT TIMES",
+        ),
     }
 }

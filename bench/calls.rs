@@ -1,4 +1,4 @@
-// The five calls, of three makes: proved, fast and second.
+// The calls, of three makes: proved, fast and second. Five take a table and a policy; the sixth reads DTD text, and has no fast make.
 
 use crate::{fast, plain, proved};
 
@@ -11,6 +11,8 @@ impl Outcome {
     }
 }
 
+pub type ReadDtd = fn(&[u8], &mut [u16]) -> Outcome;
+
 pub struct Make {
     pub name: &'static str,
     pub check_table: fn(&[u16]) -> Outcome,
@@ -18,6 +20,7 @@ pub struct Make {
     pub complete: fn(&[u16], &[u8], &mut [u8]) -> Outcome,
     pub mend: fn(&[u16], &[u8], &mut [u8]) -> Outcome,
     pub judge_mend: fn(&[u16], &[u8], &[u8]) -> Outcome,
+    pub read_dtd: Option<ReadDtd>,
 }
 
 pub const MAKES: [Make; 3] = [
@@ -28,6 +31,7 @@ pub const MAKES: [Make; 3] = [
         complete: proved::complete,
         mend: proved::mend,
         judge_mend: proved::judge_mend,
+        read_dtd: Some(proved::read_dtd),
     },
     Make {
         name: "fast",
@@ -36,6 +40,7 @@ pub const MAKES: [Make; 3] = [
         complete: fast::complete,
         mend: fast::mend,
         judge_mend: fast::judge_mend,
+        read_dtd: None,
     },
     Make {
         name: "second",
@@ -44,6 +49,7 @@ pub const MAKES: [Make; 3] = [
         complete: plain::complete,
         mend: plain::mend,
         judge_mend: plain::judge_mend,
+        read_dtd: Some(plain::read_dtd),
     },
 ];
 
@@ -56,6 +62,7 @@ pub enum Call {
     JudgeMend,
 }
 
+/// The calls that take a table.
 pub const CALLS: [Call; 5] =
     [Call::CheckTable, Call::JudgePolicy, Call::Complete, Call::Mend, Call::JudgeMend];
 

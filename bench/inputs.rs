@@ -4,10 +4,10 @@
 use crate::calls::{Call, Case};
 use crate::fast;
 
-const EMPTY: u16 = 0;
-const TEXT: u16 = 1;
-const SEQUENCE: u16 = 2;
-const CHOICE: u16 = 3;
+pub const EMPTY: u16 = 0;
+pub const TEXT: u16 = 1;
+pub const SEQUENCE: u16 = 2;
+pub const CHOICE: u16 = 3;
 const STAR: u16 = 4;
 
 const UNSET: u8 = 0;
@@ -22,9 +22,9 @@ pub struct Input {
 
 // ---------------------------------------------------------------- tables
 
-struct Type {
-    kind: u16,
-    children: Vec<u16>,
+pub struct Type {
+    pub kind: u16,
+    pub children: Vec<u16>,
 }
 
 fn privileges_of(it: &Type) -> usize {
@@ -51,7 +51,7 @@ fn encode(types: &[Type], root: usize) -> Vec<u16> {
     words
 }
 
-fn decode(words: &[u16]) -> Vec<Type> {
+pub fn decode(words: &[u16]) -> Vec<Type> {
     let (records, list) = words[8..].split_at(3 * words[2] as usize);
     let children = |record: &[u16]| list[record[2] as usize..][..record[1] as usize].to_vec();
     let read = |record: &[u16]| Type { kind: record[0], children: children(record) };
@@ -59,7 +59,7 @@ fn decode(words: &[u16]) -> Vec<Type> {
 }
 
 /// E 40, C 39, V 200: choices of 6, 10 and 8, five stars, fourteen texts.
-fn ordinary() -> Vec<u16> {
+pub fn ordinary() -> Vec<u16> {
     let mut types = Vec::new();
     let mut add = |kind, children| types.push(Type { kind, children });
     add(SEQUENCE, (1..=8).chain(38..=39).collect());
@@ -73,7 +73,7 @@ fn ordinary() -> Vec<u16> {
 
 /// A table of e types and c child entries, whose last `choices` types with children are choices and the others sequences. A type with children
 /// has 16. No choice is below another; each has the last 16 types as its children, which are text. So V is 240 for each choice, and 16.
-fn sized(e: usize, c: usize, choices: usize) -> Vec<u16> {
+pub fn sized(e: usize, c: usize, choices: usize) -> Vec<u16> {
     let parents = c / 16;
     let mut types = Vec::new();
     for t in 0..e {
@@ -102,7 +102,7 @@ fn children_of(e: usize, parents: usize, t: usize) -> Vec<u16> {
 /// A largest table in which the search for a type on a cycle is longest, E 256, C 1,024. Only the root, 255, and type 254, which is below all others,
 /// are on one: each is its own child. Types 0 to 253 stand between the two, each above the next, and those with the most children come last, so
 /// that most entries are below each of them.
-fn cyclic() -> Vec<u16> {
+pub fn cyclic() -> Vec<u16> {
     let sequence = |children| Type { kind: SEQUENCE, children };
     let mut types: Vec<Type> = (0..254).map(|t| sequence(next_ones(t))).collect();
     types.extend([sequence(vec![254]), sequence(vec![0, 255])]);

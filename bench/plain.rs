@@ -1,8 +1,9 @@
-// The five calls of the second program in the form of `calls`.
+// The calls of the second program in the form of `calls`.
 
 use crate::calls::{Case, Outcome};
 use second::answers::{answer, Answer, Breach};
-use second::{cases, completing, conditions, mending, table};
+use second::dtd_case::DtdCase;
+use second::{cases, completing, conditions, dtd, mending, table};
 
 fn outcome_of(outcome: second::answers::Outcome) -> Outcome {
     let Answer { number, place, count, breach } = answer(outcome);
@@ -30,11 +31,18 @@ pub fn judge_mend(words: &[u16], marks: &[u8], proposed: &[u8]) -> Outcome {
     outcome_of(mending::judge_mend(words, marks, proposed))
 }
 
-/// The policies of a stream of cases (second/README.md has its form).
-pub fn cases_of(stream: &[u8]) -> Vec<Case> {
-    let policy = |case| match case {
-        cases::Case::Policy(case) => Some(case),
-        cases::Case::Dtd(_) => None,
-    };
-    cases::read_cases(stream).into_iter().filter_map(policy).collect()
+pub fn read_dtd(text: &[u8], out: &mut [u16]) -> Outcome {
+    outcome_of(dtd::read_dtd(text, out))
+}
+
+/// The policies and the DTD texts of a stream of cases (second/README.md has its form).
+pub fn cases_of(stream: &[u8]) -> (Vec<Case>, Vec<DtdCase>) {
+    let (mut policies, mut texts) = (Vec::new(), Vec::new());
+    for case in cases::read_cases(stream) {
+        match case {
+            cases::Case::Policy(case) => policies.push(case),
+            cases::Case::Dtd(case) => texts.push(case),
+        }
+    }
+    (policies, texts)
 }

@@ -1,25 +1,24 @@
 // How much stack a call uses: it is run on a stack of its own that was painted before, and the paint is looked at afterwards.
 
-use crate::calls::{run, Call, Case, Make, Outcome};
+use crate::calls::Outcome;
 use std::arch::asm;
 
 const SIZE: usize = 1 << 20;
 
-struct Job<'a> {
-    make: &'a Make,
-    call: Call,
-    case: &'a mut Case,
+struct Job<'a, C, F> {
+    call: &'a F,
+    case: C,
     told: Outcome,
 }
 
-extern "C" fn work(job: *mut Job) {
+extern "C" fn work<C, F: Fn(&mut C) -> Outcome>(job: *mut Job<C, F>) {
     // The job lives in `used`, which waits for this function to return.
     let job = unsafe { &mut *job };
-    job.told = run(job.make, job.call, job.case);
+    job.told = (job.call)(&mut job.case);
 }
 
 /// Runs the job on another stack, whose end is given.
-fn on_stack(end: *mut u8, job: &mut Job) {
+fn on_stack<C, F: Fn(&mut C) -> Outcome>(end: *mut u8, job: &mut Job<C, F>) {
     // The end is aligned to 16 bytes, and r12 keeps the old stack pointer, since the callee preserves it.
     unsafe {
         asm!(
@@ -28,8 +27,8 @@ fn on_stack(end: *mut u8, job: &mut Job) {
             "call {work}",
             "mov rsp, r12",
             end = in(reg) end,
-            work = sym work,
-            in("rdi") job as *mut Job,
+            work = sym work::<C, F>,
+            in("rdi") job as *mut Job<C, F>,
             out("r12") _,
             clobber_abi("C"),
         );
@@ -37,23 +36,17 @@ fn on_stack(end: *mut u8, job: &mut Job) {
 }
 
 /// The bytes from the lowest one that was written to the end of the stack.
-fn used(make: &Make, call: Call, case: &Case, paint: u8) -> usize {
+fn used<C: Clone>(call: &impl Fn(&mut C) -> Outcome, case: &C, paint: u8) -> usize {
     let mut stack = vec![u128::from_ne_bytes([paint; 16]); SIZE / 16];
     let end = stack.as_mut_ptr_range().end;
-    let mut case = case.clone();
-    on_stack(end.cast(), &mut Job { make, call, case: &mut case, told: Outcome::default() });
+    on_stack(end.cast(), &mut Job { call, case: case.clone(), told: Outcome::default() });
     let bytes = stack.iter().flat_map(|painted| painted.to_ne_bytes());
     SIZE - bytes.take_while(|&byte| byte == paint).count()
 }
 
-fn nothing(_: &[u16]) -> Outcome {
-    Outcome::default()
-}
-
 /// The bytes that the call itself uses, with its return address and the arguments that it is handed on the stack: what a call that does nothing uses
-/// is taken off. Two paints, since a call may write the bytes of one.
-pub fn stack_of(make: &Make, call: Call, case: &Case) -> usize {
-    let empty = Make { name: "", check_table: nothing, ..*make };
-    let most = |make, call| used(make, call, case, 0xa5).max(used(make, call, case, 0x5a));
-    most(make, call) - most(&empty, Call::CheckTable)
+/// is taken off. Both are of one type, so that the same function makes them. Two paints, since a call may write the bytes of one.
+pub fn stack_of<C: Clone, F: Fn(&mut C) -> Outcome>(call: F, nothing: F, case: &C) -> usize {
+    let most = |call| used(call, case, 0xa5).max(used(call, case, 0x5a));
+    most(&call) - most(&nothing)
 }
