@@ -1,5 +1,5 @@
 // Holds the exported library to the second program on fresh cases: each call, all numbers of its answer, and every lent run afterwards.
-// second/soak builds it and runs it with SEED, COUNT and the folder where a case that differs is kept.
+// second/soak builds it and runs it with SEED, COUNT, DTDS and the folder where a case that differs is kept.
 
 #[path = "../bindings/rust/src/border.rs"]
 mod border;
@@ -71,7 +71,7 @@ fn fail(what: &str) -> ! {
 }
 
 fn number(text: &str) -> u64 {
-    text.parse().unwrap_or_else(|_| fail("SEED and COUNT are numbers"))
+    text.parse().unwrap_or_else(|_| fail("SEED, COUNT and DTDS are numbers"))
 }
 
 /// Keeps a case as a stream, and says where.
@@ -82,23 +82,23 @@ fn keep(case: Case, path: &str) -> String {
     }
 }
 
-fn soak(seed: u64, count: usize, folder: &str) {
+fn soak(seed: u64, count: usize, dtds: usize, folder: &str) {
     let mut counts = Counts::new();
-    for (k, case) in making::cases(seed, count, 0).enumerate() {
+    for (k, case) in making::cases(seed, count, dtds).enumerate() {
         if let Err(difference) = compare_case(&case, &mut counts) {
             let kept = keep(case, &format!("{}/differs.{}.{}", folder, seed, k));
             let alike = counts.total();
             fail(&format!("{alike} calls alike, then a difference: case {k} of seed {seed}, {kept}\n{difference}"));
         }
     }
-    print!("{} cases of seed {}, {} calls, no difference\n{}", count, seed, counts.total(), counts.text());
+    print!("{} cases of seed {}, {} calls, no difference\n{}", count + dtds, seed, counts.total(), counts.text());
 }
 
 fn main() {
     let arguments: Vec<String> = std::env::args().skip(1).collect();
     let arguments: Vec<&str> = arguments.iter().map(String::as_str).collect();
     match arguments[..] {
-        [seed, count, folder] => soak(number(seed), number(count) as usize, folder),
-        _ => fail("soak SEED COUNT FOLDER"),
+        [seed, count, dtds, folder] => soak(number(seed), number(count) as usize, number(dtds) as usize, folder),
+        _ => fail("soak SEED COUNT DTDS FOLDER"),
     }
 }

@@ -88,7 +88,7 @@ fn shift(list: &mut [u16; 512], low: usize, high: usize)
 }
 
 // Enters the name at a place as that of declaration `count`, one of the first 256.
-pub fn enter(s: &[u8], list: &mut [u16; 512], count: usize, at: usize)
+pub(crate) fn enter(s: &[u8], list: &mut [u16; 512], count: usize, at: usize)
     requires { ⌜ length (now list) ≡ 512 ⌝ }
     ensures { λ _. ⌜ Entered (now (s .entry)) (now (list .entry)) count at (now (list .exit)) ⌝ }
 {
