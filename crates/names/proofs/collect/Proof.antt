@@ -9,7 +9,7 @@ use lib.ListN.{length}
 use Rattle.grammar.specs.Tree.{Declaration}
 use Rattle.grammar.specs.Grammar.{Items}
 use Rattle.names.specs.steps.Names.{Listed}
-use Rattle.names.proofs.Listing.{listed-none}
+use Rattle.names.proofs.Entering.{listed-none}
 use Rattle.names.proofs.Gone.{Gone, gone-start, gone-step, gone-more, gone-all, listed-more}
 use Rattle.names.proofs.collect.Statement.{statement}
 use Rattle.names.proofs.collect.Tie as tie

@@ -2,7 +2,7 @@
 use mathlib.Core.Logic.{inl, inr}
 use native.Mathlib.Omega.{arith}
 use borrow.Author.Needs.{needs}
-use Rattle.names.proofs.Listing.{entered, not-entered}
+use Rattle.names.proofs.Entering.{entered, not-entered}
 use Rattle.names.proofs.list.enter.Statement.{statement}
 use Rattle.names.proofs.list.enter.Tie as tie
 

@@ -1,6 +1,6 @@
 -- All declarations are listed, so what the list has is all there is. Assumes nothing.
 use borrow.Author.Needs.{needs}
-use Rattle.names.proofs.Listing.{number-read}
+use Rattle.names.proofs.Finding.{number-read}
 use Rattle.names.proofs.list.number.Statement.{statement}
 use Rattle.names.proofs.list.number.Tie as tie
 

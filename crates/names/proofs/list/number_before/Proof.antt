@@ -4,7 +4,7 @@ use native.Mathlib.Omega.{arith}
 use mathlib.Core.Path.{_≡_}
 use borrow.Author.Needs.{needs}
 use Rattle.scan.proofs.Told.{yes-told, no-told}
-use Rattle.names.proofs.Listing.{before-first, before-hit, before-miss}
+use Rattle.names.proofs.Finding.{before-first, before-hit, before-miss}
 use Rattle.names.proofs.list.number_before.Statement.{statement}
 use Rattle.names.proofs.list.number_before.Tie as tie
 

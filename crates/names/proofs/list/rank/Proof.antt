@@ -8,7 +8,7 @@ use Rattle.grammar.specs.Tree.{Declaration}
 use Rattle.scan.proofs.Told.{yes-told, no-told}
 use Rattle.names.specs.steps.Walk.{NameAt}
 use Rattle.names.specs.steps.Names.{Listed, Ranked}
-use Rattle.names.proofs.Listing.{ranked-start, ranked-up, ranked-down}
+use Rattle.names.proofs.Finding.{ranked-start, ranked-up, ranked-down}
 use Rattle.names.proofs.list.rank.Statement.{statement}
 use Rattle.names.proofs.list.rank.Tie as tie
 
