@@ -27,7 +27,7 @@ fn is_text(s: &[u8], at: usize) -> bool
 }
 
 // The words of a content.
-pub fn put_content(
+pub(crate) fn put_content(
     s: &[u8],
     at: usize,
     list: &[u16; 512],

@@ -1,5 +1,5 @@
 // Putting names, particles, choices and sequences into code.
-ghost use Prim.Native.Nat.{_≤_, _<_};
+ghost use Prim.Native.Nat.{_≤_};
 ghost use mathlib.Core.Path.{_≡_};
 ghost use lib.ListN.{length};
 ghost use Rattle.grammar.proofs.Unique.{Separator};
@@ -46,7 +46,7 @@ fn put_name(
 }
 
 // A particle, with this many groups still allowed.
-pub fn put_particle(
+pub(crate) fn put_particle(
     s: &[u8],
     at: usize,
     depth: usize,

@@ -68,7 +68,7 @@ fn answer(words: &[u16], out: &mut [u16]) -> Checked
 }
 
 // The answer for a table whose word 7 is still to be written.
-pub fn finish(words: &mut [u16], out: &mut [u16]) -> Checked
+pub(crate) fn finish(words: &mut [u16], out: &mut [u16]) -> Checked
     requires { ⌜ (8 ≤ length (now words)) × (8 + 3 * types (now words) ≤ length (now words)) × (types (now words) ≤ 256) ⌝ }
     ensures { λ r. ⌜ ((ds : List Declaration) → Small ds → now (words .entry) ≡ untotalled ds → Last (tableOf 1 ds) (now (out .entry)) (r .number) (r .place) (now (out .exit))) ⌝ }
 {

@@ -1,8 +1,5 @@
 // Reading DTD text into a table. The contract of read_dtd cites specs/Answer; those of its passes cite specs/steps.
-ghost use Prim.Native.Nat.{ℕ, _≤_};
-ghost use mathlib.Core.Path.{_≡_};
 ghost use mathlib.Core.List.{List};
-ghost use lib.ListN.{length};
 ghost use Rattle.grammar.specs.Tree.{Declaration};
 ghost use Rattle.scan.specs.steps.Scanned.{Read};
 ghost use Rattle.model.specs.Tables.{tableOf};

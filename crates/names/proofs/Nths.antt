@@ -1,7 +1,7 @@
 -- Elements of a list by their place, passed and left in a walk along it. Assumes nothing.
-use Prim.Native.Nat.{ℕ, zero, suc, _+_, _<_}
+use Prim.Native.Nat.{ℕ, suc, _+_, _<_}
 use mathlib.Core.Path.{_≡_, refl}
-use mathlib.Core.List.{List, [], _∷_}
+use mathlib.Core.List.{List, _∷_}
 use native.Mathlib.Omega.{arith}
 use lib.ListN.{length}
 use Rattle.grammar.specs.Tree.{Nth, first, later}
@@ -13,11 +13,6 @@ nth-below (later n) = omega (arith, nth-below n)
 pub nth-same : {A : Type 0} {l : List A} {i : ℕ} {a b : A} → Nth l i a → Nth l i b → a ≡ b
 nth-same first first = refl
 nth-same (later n) (later m) = nth-same n m
-
-pub nth-at : {A : Type 0} (l : List A) (i : ℕ) → i < length l → (a : A) × Nth l i a
-nth-at [] i h = absurd (omega arith)
-nth-at (a ∷ l) zero h = (a, first)
-nth-at (a ∷ l) (suc i) h = let x = nth-at l i (omega arith) in (x .0, later (x .1))
 
 -- n elements of the list passed, these are left
 pub data Left {A : Type 0} (l : List A) : ℕ → List A → Type 0 where

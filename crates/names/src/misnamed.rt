@@ -49,7 +49,7 @@ fn first_unknown(s: &[u8], list: &[u16; 512], count: usize, at: usize) -> Found
 }
 
 // The first name of declaration m that is declared before, or used and never declared.
-pub fn first_wrong(
+pub(crate) fn first_wrong(
     s: &[u8],
     list: &[u16; 512],
     count: usize,

@@ -13,7 +13,7 @@ use Rattle.grammar.specs.Bytes.{ascii, isSpace, isNameStart, isMark, Byte, Of, 
 use Rattle.grammar.specs.Tree.{Mark, Particle, Particles, name, choice, sequence, last, more}
 use Rattle.grammar.specs.Grammar.{Blanks, Name, MarkAt, no-mark, question, asterisk, plus, Cp, cp-name, cp-group, Children, as-choice, as-sequence, Row, closed, separated}
 use Rattle.grammar.proofs.Pieces.{true-false, clash, off}
-use Rattle.grammar.proofs.Unique.{Separator, cp-no-space, row-no-space}
+use Rattle.grammar.proofs.Unique.{Separator, row-no-space}
 use Rattle.scan.specs.steps.Agree.{Agree}
 use Rattle.scan.specs.steps.Claims.{Mode, plain, limit, Claim, With, behind-it, in-it, this, that, LiteralThen, BlanksThen, Maybe, one, none, MaybeThen, LongAt, NameThen}
 use Rattle.scan.specs.steps.Claims.{WideAt, WideIn, ParticleThen, RowThen, Inside, of-choice, of-sequence, InsideThen, Closing, Opening}
@@ -74,9 +74,6 @@ pub good-opening : {K : Claim} (depth : ℕ) → Good K → Good (Opening depth 
 good-opening depth g = good-or (good-closing (code "|") depth g) (good-closing (code ",") depth g)
 
 -- where they begin
-pub particle-no-space : {K : Claim} (depth : ℕ) → Avoids isSpace (ParticleThen depth K)
-particle-no-space depth = record { free-of = λ a m u p. cp-no-space (p .piece) }
-
 pub row-tight : {K : Claim} (s depth : ℕ) → Avoids isSpace (RowThen s depth K)
 row-tight s depth = record { free-of = λ a m u p. row-no-space (p .piece) }
 

@@ -161,9 +161,6 @@ good-name g = good-then (λ u a b x y. omega (arith, name-lt y)) (λ u a b x j n
     letter : {u : List ℕ} {a b : ℕ} → Literal u (ascii "a") a b → (x : List ℕ) × Name u a b x
     letter {u} {a} {b} (byte g done) = (slice a b u, record { is = refl; start = record { within = g .within; is = ap isNameStart (g .is) }; rest = stop })
 
-pub avoids-name : {class : ℕ → Bool} {K : Claim} → ((b : ℕ) → isNameStart b ≡ true → class b ≡ false) → Avoids class (NameThen K)
-avoids-name e = record { free-of = λ a m u p. apart e (p .piece .start) }
-
 module _ {K : Claim} {t : List ℕ} {a : ℕ} (g : Good K) (f : Avoids isNameByte K) where
   name-got : {e : ℕ} → NameGot t a e → Moves (NameThen K) K t a e
   name-got {e} x = record {

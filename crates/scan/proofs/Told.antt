@@ -1,9 +1,8 @@
 -- Yes and no about a byte of the text. Assumes nothing.
-use Prim.Native.Nat.{ℕ, suc, _≤_, _<_}
+use Prim.Native.Nat.{ℕ, suc, _<_}
 use mathlib.Core.Path.{_≡_, sym}
 use mathlib.Core.Bool.{Bool, true, false}
 use mathlib.Core.List.{List, _∷_}
-use native.Mathlib.Omega.{arith}
 use lib.Dec.{eqb}
 use lib.ListN.{length, getD}
 use borrow.Author.Tests.{eqb-true, eq-eqb}
@@ -27,12 +26,6 @@ yes-told {P} x e = rw e at x
 
 pub no-told : {P : Type 0} {r : Bool} → Tells P r → r ≡ false → ¬ P
 no-told {P} x e = rw e at x
-
-pub out-of : {class : ℕ → Bool} {t : List ℕ} {a : ℕ} → length t ≤ a → ¬ Of class t a
-out-of h o = omega (arith, o .within)
-
-pub out-byte : {t : List ℕ} {a b : ℕ} → length t ≤ a → ¬ Byte t a b
-out-byte h o = omega (arith, o .within)
 
 -- a span and one byte more
 pub span-more : {class : ℕ → Bool} {t : List ℕ} {a b : ℕ} → Span class t a b → Of class t b → Span class t a (suc b)

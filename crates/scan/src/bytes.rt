@@ -1,6 +1,6 @@
 // Classes of bytes, and what stands at a place.
 ghost use mathlib.Core.Path.{_≡_};
-ghost use mathlib.Core.Bool.{_||_, _&&_, not};
+ghost use mathlib.Core.Bool.{_||_, _&&_};
 ghost use lib.Dec.{leb};
 ghost use Rattle.grammar.specs.Bytes.{isSpace, isNameStart, isNameByte, isMark, isNoDash, Byte, Of};
 ghost use Rattle.scan.specs.steps.Classes.{classOf};

@@ -31,7 +31,7 @@ fn particle(s: &[u8], at: usize, depth: usize) -> Step
 }
 
 // A group and its mark, from behind its '(' and white space on.
-pub fn group(s: &[u8], at: usize, depth: usize) -> Step
+pub(crate) fn group(s: &[u8], at: usize, depth: usize) -> Step
     requires { ⌜ at ≤ length (now s) ⌝ }
     ensures { λ r. ⌜ ((fs : List Frame) → Reads (InsideThen depth (RestMarked fs)) (Rest fs) (now (s .entry)) at r) ⌝ }
 {

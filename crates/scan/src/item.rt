@@ -242,7 +242,7 @@ fn finish(seen: bool, at: usize) -> Step
 }
 
 // All items of a text.
-pub fn items(s: &[u8]) -> Step
+pub(crate) fn items(s: &[u8]) -> Step
     ensures { λ r. ⌜ ItemsRead (now (s .entry)) r ⌝ }
 {
     let mut i = 0;

@@ -1,5 +1,5 @@
 // Readers of the smallest pieces: white space, words, marks and names.
-ghost use Prim.Native.Nat.{ℕ, _≤_};
+ghost use Prim.Native.Nat.{_≤_};
 ghost use lib.ListN.{length};
 ghost use Rattle.grammar.specs.Bytes.{isMark, isNameStart, Of};
 ghost use Rattle.scan.specs.steps.Readers.{BlanksRead, SpaceRead, MaybeRead, NameRead, WordRead};

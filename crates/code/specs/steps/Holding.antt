@@ -1,5 +1,5 @@
 -- A buffer of 1,280 words that holds the front of a list; its size is counted up to 1,281, which stands for all that is longer. Assumes nothing.
-use Prim.Native.Nat.{ℕ, suc, _<_, min}
+use Prim.Native.Nat.{ℕ, _<_, min}
 use mathlib.Core.Path.{_≡_}
 use mathlib.Core.List.{List, _∷_, _++_}
 use lib.ListN.{length, getD}
