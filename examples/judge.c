@@ -10,8 +10,9 @@ static void say_breach(finnedscarf_outcome o)
 {
     switch (o.condition) {
     case FINNEDSCARF_INSERT_DELETE:
-        printf("condition 1 at type %zu: insert and delete are allowed, and privilege %zu below its child is forbidden\n", o.type,
-               o.privilege);
+        printf("condition 1 at type %zu: insert and delete, or in format 2 replace, are allowed, and privilege %zu, which they can "
+               "imitate, is forbidden\n",
+               o.type, o.privilege);
         break;
     case FINNEDSCARF_CHAIN:
         printf("condition 2 at type %zu: allowed replacements lead from position %zu to %zu, and privilege %zu, that replacement, is "

@@ -12,7 +12,7 @@
  *
  * The table
  *   A run of 16-bit words: 8 words of header, three words for each of the E types, then the C entries of the child list.
- *     word 0  format, 1                        word 4  offset of the type records, 8
+ *     word 0  format, 1 or 2                   word 4  offset of the type records, 8
  *     word 1  number of words, 8 + 3E + C      word 5  number of child entries C, 0 to 1024
  *     word 2  number of types E, 1 to 256      word 6  offset of the child list, 8 + 3E
  *     word 3  root type, below E               word 7  number of privileges V, 0 to 4096
@@ -30,9 +30,12 @@
  *   group, `*`, `?` and `+` is a made type: `a?` a choice of a and a made empty type, `a+` a sequence of a and a made star of a.
  *
  * The privileges
- *   Numbered from 0, types in ascending order. Empty and sequence have none. Text has one: change the text. Star has two: insert, then
- *   delete. A choice of n children has n(n - 1): to replace the child at position i by the kind at position j is number
- *   first + i(n - 1) + j, less 1 if j is greater than i. Positions count from 0.
+ *   Numbered from 0, types in ascending order. Empty and sequence have none. Text has one: change the text.
+ *   In format 1, star has two: insert, then delete. A choice of n children has n(n - 1): to replace the child at position i by the kind at
+ *   position j is number first + i(n - 1) + j, less 1 if j is greater than i. Positions count from 0.
+ *   In format 2 an element can be replaced by another of its own kind too. Star has three: insert, then delete, then replace, which is its
+ *   child by another of that kind. A choice of n children has n * n: to replace the child at position i by the kind at position j is number
+ *   first + i * n + j, also where j is i.
  *
  * The policy
  *   V marks, one byte each, as below.
@@ -63,7 +66,7 @@ enum {
     FINNEDSCARF_GRAMMAR = 20,         /* not DTD text; place: the first byte that cannot stand there, or the length at an early end */
     FINNEDSCARF_LIMIT = 21,           /* ANY, mixed content with names, or a limit passed; place: byte, as said at the call */
     FINNEDSCARF_NAME = 22,            /* a name declared before, or used and never declared; place: its first byte */
-    FINNEDSCARF_FORMAT = 1,           /* under 8 words lent, or word 0 is not 1 */
+    FINNEDSCARF_FORMAT = 1,           /* under 8 words lent, or word 0 is neither 1 nor 2 */
     FINNEDSCARF_LAYOUT = 2,           /* words 1 to 6 are not as above, or the run lent isn't word 1 long */
     FINNEDSCARF_KIND = 3,             /* kind above 4; place: type */
     FINNEDSCARF_COUNT = 4,            /* child count wrong for the kind; place: type */
@@ -82,10 +85,11 @@ enum {
     FINNEDSCARF_BREACH = 16           /* a breach, which is told; completing: in the policy; judging a mend: in the proposed one */
 };
 
-/* The condition that a breach breaks. */
+/* The condition that a breach breaks. In format 1 a star has no replace, and for condition 2 i differs from j. */
 enum {
     FINNEDSCARF_NONE = 0,          /* no breach */
-    FINNEDSCARF_INSERT_DELETE = 1, /* at a star, insert and delete are both allowed, and a privilege below its child is forbidden */
+    FINNEDSCARF_INSERT_DELETE = 1, /* at a star, insert and delete are both allowed, and replace or a privilege below its child is forbidden;
+                                      or replace is allowed, and a privilege below its child is forbidden */
     FINNEDSCARF_CHAIN = 2,         /* at a choice, allowed replacements lead from i to j, and replacing i by j is forbidden */
     FINNEDSCARF_CYCLE = 3          /* at a choice, allowed replacements lead from i back to i, and a privilege below it is forbidden */
 };
@@ -99,7 +103,8 @@ typedef struct {
     size_t type;      /* the type at which it is broken */
     size_t i;         /* position; 0 for condition 1 */
     size_t j;         /* position; 0 for condition 1, and i for condition 3 */
-    size_t privilege; /* the forbidden replacement for condition 2, else the lowest forbidden privilege below the child */
+    size_t privilege; /* the forbidden replacement for condition 2, the star's replace for condition 1 if that is forbidden, else the
+                         lowest forbidden privilege below the child */
 } finnedscarf_outcome;
 
 /* Checks a table: 0 with V as place, or 1 to 9 or 19. */
@@ -109,7 +114,8 @@ finnedscarf_outcome finnedscarf_check_table(const uint16_t *words, size_t words_
  * Reads DTD text: 0 with V as place and the text's table in `out`, as many words as its word 1 says; or 20 to 22; or the table's own numbers, of
  * which there can be 4, 7, 19, 8 and 9; or 12. 1,800 words hold every table (8 + 3 * 256 + 1024). The place of 21 is ANY's first byte, mixed
  * content's first `|`, a name's 33rd byte, byte 65,536, the parenthesis of a group inside 16 others, or, for over 256 types or 1,024 child
- * entries, the length. A refusal leaves `out` as it was; else its words behind the table are kept.
+ * entries, the length. A refusal leaves `out` as it was; else its words behind the table are kept. The table is in format 1. With word 0 set
+ * to 2 and one added to word 7 for each star and for each child of each choice, it is the same schema in format 2, if V is then at most 4096.
  */
 finnedscarf_outcome finnedscarf_read_dtd(const uint8_t *text, size_t text_length, uint16_t *out, size_t out_length);
 
@@ -129,8 +135,8 @@ finnedscarf_outcome finnedscarf_complete(const uint16_t *words, size_t words_len
 /*
  * Mends a policy: 0 with a clean policy in the first V bytes of `out`, in which `count` marks went from allowed to forbidden and all
  * others are equal, or 1 to 12 or 19. A refusal leaves `out` as it was; else its bytes from V on are kept. The rule, until the policy is clean:
- * for the first breach forbid, if of condition 1, the delete; else the replacement of i by the lowest k such that it is allowed, and k is j
- * or allowed replacements lead from k to j.
+ * for the first breach forbid, if of condition 1, the delete where insert and delete are both allowed, and replace where they are not; else
+ * the replacement of i by the lowest k such that it is allowed, and k is j or allowed replacements lead from k to j.
  */
 finnedscarf_outcome finnedscarf_mend(const uint16_t *words, size_t words_length, const uint8_t *marks, size_t marks_length,
                                      uint8_t *out, size_t out_length);

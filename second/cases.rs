@@ -33,12 +33,16 @@ impl Case {
         }
     }
 
-    /// The case as a file for the program judge, where it has a policy.
-    pub fn file(&self) -> Option<Vec<u8>> {
+    pub fn policy(&self) -> Option<&PolicyCase> {
         match self {
-            Case::Policy(case) => Some(case.file()),
+            Case::Policy(case) => Some(case),
             Case::Dtd(_) => None,
         }
+    }
+
+    /// The case as a file for the program judge, where it has a policy.
+    pub fn file(&self) -> Option<Vec<u8>> {
+        self.policy().map(PolicyCase::file)
     }
 
     /// The name of each call on such a case, and what it tells.

@@ -21,13 +21,19 @@ pub fn reached(table: &Table, marks: &[u8], choice: usize, i: usize) -> Vec<bool
     found
 }
 
+/// Insert and delete force the exchange, where there is one; these two, or the exchange, force what is below the child.
 fn forced_by_star(table: &Table, marks: &[u8], of: usize) -> Vec<Breach> {
-    if marks[table.insert(of)] != ALLOWED || marks[table.delete(of)] != ALLOWED {
-        return Vec::new();
-    }
     let child = table.types[of].children[0];
-    let forced = |&privilege: &usize| Breach { condition: 1, of, i: 0, j: 0, privilege };
-    table.below[child].iter().map(forced).collect()
+    let exchange = table.exchange(of);
+    let both = table.allows_both(marks, of);
+    let mut forced = Vec::new();
+    if both {
+        forced.extend(exchange);
+    }
+    if both || exchange.map_or(false, |privilege| marks[privilege] == ALLOWED) {
+        forced.extend(&table.below[child]);
+    }
+    forced.into_iter().map(|privilege| Breach { condition: 1, of, i: 0, j: 0, privilege }).collect()
 }
 
 fn forced_by_choice(table: &Table, marks: &[u8], of: usize) -> Vec<Breach> {
@@ -36,7 +42,7 @@ fn forced_by_choice(table: &Table, marks: &[u8], of: usize) -> Vec<Breach> {
     let reach: Vec<Vec<bool>> = (0..n).map(|i| reached(table, marks, of, i)).collect();
     let mut forced = Vec::new();
     for i in 0..n {
-        for j in (0..n).filter(|&j| j != i && reach[i][j]) {
+        for j in (0..n).filter(|&j| table.format.is_replaceable(i, j) && reach[i][j]) {
             forced.push(Breach { condition: 2, of, i, j, privilege: table.replacement(of, i, j) });
         }
     }

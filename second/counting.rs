@@ -1,10 +1,12 @@
-// How often each call gave each number and each condition.
+// How often each call gave each number and each condition, and how often each situation of format 2 came.
 
 use crate::answers::Answer;
 use crate::calls::{Call, POLICY, TABLE};
-use crate::cases::read_cases;
+use crate::cases::{read_cases, Case};
 use crate::dtd_case;
-use crate::policy_case;
+use crate::format::Format;
+use crate::policy_case::{self, PolicyCase};
+use crate::situations::{names, situations};
 use std::collections::BTreeMap;
 
 /// The numbers in the order of the checks.
@@ -105,18 +107,77 @@ impl Counts {
         self.0.iter().map(|row| row.numbers.total()).sum()
     }
 
-    /// The rows, and the fewest of those calls that were made.
-    pub fn text(&self) -> String {
+    /// The fewest of those calls that were made.
+    fn fewest(&self) -> usize {
         let made = self.0.iter().filter(|row| row.numbers.total() > 0);
-        let fewest = made.map(Row::fewest).min().unwrap_or(0);
-        table_of(&self.0, NUMBERS) + &format!("fewest of what a call can give: {}\n", fewest)
+        made.map(Row::fewest).min().unwrap_or(0)
+    }
+
+    pub fn text(&self) -> String {
+        table_of(&self.0, NUMBERS) + &format!("fewest of what a call can give: {}\n", self.fewest())
+    }
+}
+
+/// How often each situation of format 2 came.
+struct Situations(Vec<(&'static str, usize)>);
+
+impl Situations {
+    fn new() -> Situations {
+        Situations(names().into_iter().map(|name| (name, 0)).collect())
+    }
+
+    fn add(&mut self, case: &PolicyCase) {
+        let found = situations(case);
+        self.0.iter_mut().filter(|row| found.contains(&row.0)).for_each(|row| row.1 += 1);
+    }
+
+    fn fewest(&self) -> usize {
+        self.0.iter().map(|row| row.1).min().unwrap_or(0)
+    }
+
+    fn text(&self) -> String {
+        let lines: String = self.0.iter().map(|(name, count)| format!("{:>6}  {}\n", count, name)).collect();
+        lines + &format!("fewest of the situations of format 2: {}\n", self.fewest())
+    }
+}
+
+/// What came of cases, of those with format 2 apart, and of the situations.
+pub struct Overview {
+    all: Counts,
+    of_two: Counts,
+    situations: Situations,
+}
+
+impl Overview {
+    pub fn of(cases: impl Iterator<Item = Case>) -> Overview {
+        let (all, of_two, situations) = (Counts::new(), Counts::new(), Situations::new());
+        let mut overview = Overview { all, of_two, situations };
+        cases.for_each(|case| overview.add(&case));
+        overview
+    }
+
+    fn add(&mut self, case: &Case) {
+        let is_two = case.policy().map_or(false, |policy| policy.has(Format::Two));
+        for (name, told) in case.tell() {
+            self.all.add(name, &told.answer);
+            if is_two {
+                self.of_two.add(name, &told.answer);
+            }
+        }
+        case.policy().into_iter().for_each(|policy| self.situations.add(policy));
+    }
+
+    /// The fewest of what can come of format 2: a number, a condition, a situation.
+    pub fn fewest_of_two(&self) -> usize {
+        self.of_two.fewest().min(self.situations.fewest())
+    }
+
+    fn text(&self) -> String {
+        let Overview { all, of_two, situations } = self;
+        format!("{}\nof format 2\n{}\n{}", all.text(), of_two.text(), situations.text())
     }
 }
 
 pub fn count(stream: &[u8]) -> String {
-    let mut counts = Counts::new();
-    for case in read_cases(stream) {
-        case.tell().iter().for_each(|(name, told)| counts.add(name, &told.answer));
-    }
-    counts.text()
+    Overview::of(read_cases(stream).into_iter()).text()
 }

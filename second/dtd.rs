@@ -12,6 +12,7 @@ mod trees;
 mod types;
 
 use crate::answers::{refuse_if, Answer, Outcome};
+use crate::format::Format;
 use crate::making::schemas::encode;
 use crate::table::{check_table, Type, MOST_ENTRIES, MOST_TYPES};
 use faults::{Fault, Reason};
@@ -25,6 +26,13 @@ use types::Rules;
 pub struct Declared {
     pub count: usize,
     pub types: Vec<Type>,
+}
+
+impl Declared {
+    /// The table, of format 1.
+    pub fn words(&self) -> Vec<u16> {
+        encode(Format::One, &self.types)
+    }
 }
 
 /// 20 and 21, the earliest byte first and then the lower number; then 22.
@@ -48,7 +56,7 @@ fn refuse(fault: Option<Fault>) -> Result<(), Fault> {
 pub fn read_dtd(text: &[u8], out: &mut [u16]) -> Outcome {
     let refusal =
         |fault: Fault| Answer { number: fault.reason.number(), place: fault.place, ..Answer::default() };
-    let words = encode(&declared(text).map_err(refusal)?.types);
+    let words = declared(text).map_err(refusal)?.words();
     let table = check_table(&words)?;
     refuse_if(12, out.len() < words.len())?;
     out[..words.len()].copy_from_slice(&words);

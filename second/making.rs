@@ -7,9 +7,11 @@ pub mod dtds;
 pub mod files;
 pub mod policies;
 pub mod schemas;
+pub mod second_format;
 mod shapes;
 
 use crate::cases::Case;
+use crate::format::Format;
 use crate::policy_case::PolicyCase;
 use crate::table::{check_table, MOST_PRIVILEGES};
 use chance::Random;
@@ -35,37 +37,37 @@ fn case_of(r: &mut Random, schema: &Schema) -> PolicyCase {
 }
 
 /// 256 types in a chain, each with a greater number than its child or with numbers by chance.
-fn chain_case(r: &mut Random, descending: bool) -> PolicyCase {
-    let chain = Schema::of(long_chain(r));
+fn chain_case(r: &mut Random, format: Format, descending: bool) -> PolicyCase {
+    let chain = Schema::of(format, long_chain(r));
     let chain = if descending { chain.backwards() } else { chain.by_chance(r) };
     sound_case(r, &chain)
 }
 
-fn cycle_case(r: &mut Random) -> PolicyCase {
-    let schema = schema(r);
-    PolicyCase { words: long_cycle(r, 0).words(), ..sound_case(r, &schema) }
+fn cycle_case(r: &mut Random, format: Format) -> PolicyCase {
+    let schema = schema(r, format);
+    PolicyCase { words: long_cycle(r, format, 0).words(), ..sound_case(r, &schema) }
 }
 
 /// As many privileges as there may be or nearly, with numbers by chance.
-fn full_case(r: &mut Random) -> PolicyCase {
-    let types = if r.one_in(2) { full_ladder(r) } else { large(r, MOST_PRIVILEGES) };
-    let full = Schema::of(types).by_chance(r);
+fn full_case(r: &mut Random, format: Format) -> PolicyCase {
+    let types = if r.one_in(2) { full_ladder(r, format) } else { large(r, format, MOST_PRIVILEGES) };
+    let full = Schema::of(format, types).by_chance(r);
     sound_case(r, &full)
 }
 
-fn any_case(r: &mut Random) -> PolicyCase {
-    let schema = schema(r);
+fn any_case(r: &mut Random, format: Format) -> PolicyCase {
+    let schema = schema(r, format);
     case_of(r, &schema)
 }
 
-/// Policy k: in its turn a chain or a cycle of 256 types or a full table, else what chance gives.
+/// Policy k of format 1: in its turn a chain or a cycle of 256 types or a full table, else what chance gives.
 fn make_policy(r: &mut Random, k: usize) -> PolicyCase {
     match k % 480 {
-        40 | 280 => chain_case(r, true),
-        160 | 400 => chain_case(r, false),
-        80 | 200 | 320 | 440 => cycle_case(r),
-        240 => full_case(r),
-        _ => any_case(r),
+        40 | 280 => chain_case(r, Format::One, true),
+        160 | 400 => chain_case(r, Format::One, false),
+        80 | 200 | 320 | 440 => cycle_case(r, Format::One),
+        240 => full_case(r, Format::One),
+        _ => any_case(r, Format::One),
     }
 }
 
@@ -74,7 +76,9 @@ fn policies(seed: u64, count: usize) -> impl Iterator<Item = PolicyCase> {
     (0..count).map(move |k| make_policy(&mut r, k))
 }
 
-/// So many policies, and then so many DTD texts.
-pub fn cases(seed: u64, count: usize, dtds: usize) -> impl Iterator<Item = Case> {
-    policies(seed, count).map(Case::Policy).chain(dtds::cases(seed, dtds).map(Case::Dtd))
+/// So many policies of format 1, then so many DTD texts, and then so many policies of format 2 or of another word 0.
+pub fn cases(seed: u64, count: usize, dtds: usize, second_format: usize) -> impl Iterator<Item = Case> {
+    let of_two = second_format::cases(seed, second_format);
+    let before = policies(seed, count).map(Case::Policy).chain(dtds::cases(seed, dtds).map(Case::Dtd));
+    before.chain(of_two.map(Case::Policy))
 }

@@ -4,11 +4,19 @@ use crate::answers::{refuse_at, refuse_breach, refuse_if, Answer, Breach, Outcom
 use crate::conditions::{check_policy, first_breach, reached};
 use crate::table::{Table, ALLOWED, FORBIDDEN};
 
+/// The delete if insert and delete are both allowed, otherwise the exchange.
+fn taken_from_star(table: &Table, marks: &[u8], star: usize) -> usize {
+    match table.exchange(star) {
+        Some(exchange) if !table.allows_both(marks, star) => exchange,
+        _ => table.delete(star),
+    }
+}
+
 /// The privilege that the mending rule forbids for a breach.
 fn taken_away(table: &Table, marks: &[u8], breach: Breach) -> usize {
     let Breach { condition, of, i, j, .. } = breach;
     if condition == 1 {
-        return table.delete(of);
+        return taken_from_star(table, marks, of);
     }
     let leads = |k: usize| k == j || reached(table, marks, of, k)[j];
     let k = (0..table.types[of].children.len())
@@ -17,15 +25,23 @@ fn taken_away(table: &Table, marks: &[u8], breach: Breach) -> usize {
     table.replacement(of, i, k)
 }
 
-pub fn mended(table: &Table, marks: &[u8]) -> (usize, Vec<u8>) {
+/// Each breach that is mended, in turn, and the privilege that is taken away for it.
+pub fn mending_steps(table: &Table, marks: &[u8]) -> Vec<(Breach, usize)> {
     let mut now = marks.to_vec();
-    let mut count = 0;
+    let mut steps = Vec::new();
     while let Some(breach) = first_breach(table, &now) {
         let privilege = taken_away(table, &now, breach);
         now[privilege] = FORBIDDEN;
-        count += 1;
+        steps.push((breach, privilege));
     }
-    (count, now)
+    steps
+}
+
+pub fn mended(table: &Table, marks: &[u8]) -> (usize, Vec<u8>) {
+    let mut after = marks.to_vec();
+    let steps = mending_steps(table, marks);
+    steps.iter().for_each(|&(_, privilege)| after[privilege] = FORBIDDEN);
+    (steps.len(), after)
 }
 
 pub fn mend(words: &[u16], marks: &[u8], out: &mut [u8]) -> Outcome {

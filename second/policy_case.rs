@@ -4,6 +4,7 @@ use crate::answers::Outcome;
 use crate::calls::{Call, Told, POLICY, TABLE};
 use crate::completing::complete;
 use crate::conditions::verdict;
+use crate::format::Format;
 use crate::mending::{judge_mend, mend};
 use crate::stream::{put_bytes, put_words, take_bytes, take_words, to_bytes};
 use crate::table::check;
@@ -33,6 +34,11 @@ impl PolicyCase {
         for run in [&self.marks, &self.out, &self.proposed] {
             put_bytes(stream, run);
         }
+    }
+
+    /// Whether word 0 is that of this format.
+    pub fn has(&self, format: Format) -> bool {
+        self.words.first() == Some(&format.word())
     }
 
     /// The case as a file for the program judge.

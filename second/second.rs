@@ -10,11 +10,13 @@ pub mod counting;
 pub mod dtd;
 pub mod dtd_case;
 mod files;
+pub mod format;
 mod judge;
 pub mod making;
 pub mod mending;
 pub mod policy_case;
 mod self_check;
+mod situations;
 mod stream;
 pub mod table;
 
@@ -32,8 +34,8 @@ use self_check::self_check;
 use std::io::{Read, Write};
 use table::{HEADER, MOST_ENTRIES, MOST_TYPES, RECORD};
 
-const USAGE: &str = "modes: judge | cases SEED COUNT DTDS | answers | count | files FOLDER \
-    | random SEED COUNT FILE... | reports | count files | dtd | count dtds SEED COUNT \
+const USAGE: &str = "modes: judge | cases SEED COUNT DTDS SECOND_FORMAT | answers | count | files FOLDER \
+    | random SEED COUNT SECOND_FORMAT FILE... | reports | count files | dtd | count dtds SEED COUNT \
     | documents SEED COUNT FOLDER | texts SEED COUNT FOLDER | self";
 
 fn fail(what: &str) -> ! {
@@ -103,13 +105,19 @@ fn number(text: &str) -> u64 {
     text.parse().unwrap_or_else(|_| fail(USAGE))
 }
 
+fn sizes<const N: usize>(texts: &[&str]) -> [usize; N] {
+    let sizes: Vec<usize> = texts.iter().map(|text| number(text) as usize).collect();
+    sizes.try_into().unwrap_or_else(|_| fail(USAGE))
+}
+
 pub fn main() {
     let arguments: Vec<String> = std::env::args().skip(1).collect();
     let arguments: Vec<&str> = arguments.iter().map(String::as_str).collect();
     let output = match arguments[..] {
         ["judge"] => judge(&input()).into_bytes(),
-        ["cases", seed, count, dtds] => {
-            write_cases(making::cases(number(seed), number(count) as usize, number(dtds) as usize))
+        ["cases", seed, ref counts @ ..] => {
+            let [count, dtds, second_format] = sizes(counts);
+            write_cases(making::cases(number(seed), count, dtds, second_format))
         }
         ["answers"] => answers(&input()).into_bytes(),
         ["count"] => count(&input()).into_bytes(),
@@ -117,9 +125,9 @@ pub fn main() {
             write_files(folder, &read_cases(&input()));
             Vec::new()
         }
-        ["random", seed, count, ref named @ ..] => {
-            let named: Vec<Vec<u8>> = named.iter().map(read_named).collect();
-            random(number(seed), number(count) as usize, &named)
+        ["random", seed, count, second_format, ref named @ ..] => {
+            let [count, second_format] = sizes(&[count, second_format]);
+            random(number(seed), count, second_format, named.iter().map(read_named).collect())
         }
         ["reports"] => reports(&input()).into_bytes(),
         ["count", "files"] => count_files(&input()).into_bytes(),

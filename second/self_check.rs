@@ -1,21 +1,26 @@
 // The second program's check of itself.
 
 pub mod dtds;
+mod every;
 mod literal;
 mod policies;
 mod samples;
+mod second_format;
 mod tables;
 mod tickets;
 
 use crate::fail;
+use crate::format::Format;
 use crate::making::chance::Random;
 use dtds::self_dtds;
-use policies::{
-    self_completion, self_mend, self_one_more, self_renumbered, self_verdict, small_policy, unset,
-};
-use samples::self_both_numberings;
+use every::self_every;
+use policies::{self_policy, self_renumbered, small_policy, unset};
+use samples::self_samples;
+use second_format::self_second_format;
 use tables::{self_descent, self_hierarchies, self_named_tables, self_numbering, small_schema};
-use tickets::self_tickets;
+
+/// How often at least each answer is to come, by each rule and in each way.
+const OFTEN: usize = 20;
 
 fn expect(holds: bool, what: &str) {
     if !holds {
@@ -23,34 +28,55 @@ fn expect(holds: bool, what: &str) {
     }
 }
 
-pub fn self_check(seed: u64, count: usize) -> String {
-    self_both_numberings();
-    self_named_tables();
-    self_hierarchies();
-    let mut r = Random(seed);
-    let numbers: Vec<usize> = (0..count).map(|_| self_descent(&small_schema(&mut r))).collect();
+/// Small tables by chance.
+fn self_tables(r: &mut Random, format: Format, count: usize) -> String {
+    let numbers: Vec<usize> = (0..count).map(|_| self_descent(&small_schema(r, format))).collect();
     let of = |wanted: usize| numbers.iter().filter(|&&number| number == wanted).count();
+    let (accepted, unreached, cyclic) = (of(0), of(8), of(19));
+    format!("{} tables ({} accepted, {} with number 8, {} with 19)", count, accepted, unreached, cyclic)
+}
+
+/// Small policies by chance.
+fn self_policies(r: &mut Random, format: Format, count: usize) -> String {
     let (mut clean, mut blanks, mut tried, mut tickets) = (0, 0, 0, 0);
     for _ in 0..count {
-        let (schema, table, marks) = small_policy(&mut r);
-        let words = schema.words();
+        let (schema, table, marks) = small_policy(r, format);
         self_numbering(&table);
-        self_verdict(&words, &table, &marks);
-        self_one_more(&words, &marks);
-        self_mend(&words, &table, &marks);
-        self_renumbered(&mut r, &schema, &table, &marks);
-        clean += self_completion(&words, &table, &marks) as usize;
+        self_renumbered(r, &schema, &table, &marks);
+        let (is_clean, small) = self_policy(&schema, &table, &marks);
+        clean += is_clean as usize;
         blanks += unset(&marks);
-        let small = self_tickets(&schema, &table, &marks);
         tried += (small > 0) as usize;
         tickets += small;
     }
+    let trial = format!("{} of them by trial on {} tickets", tried, tickets);
+    format!("{} policies ({} clean, {} unset marks; {})", count, clean, blanks, trial)
+}
+
+fn self_format(seed: u64, format: Format, count: usize) -> String {
+    self_hierarchies(format);
+    let every = self_every(format);
+    let mut r = Random(seed);
+    let tables = self_tables(&mut r, format, count);
+    let policies = self_policies(&mut r, format, count);
+    format!(
+        "self: format {}: all {} policies of small tables, {} and {} hold\n",
+        format.word(),
+        every,
+        tables,
+        policies
+    )
+}
+
+pub fn self_check(seed: u64, count: usize) -> String {
+    self_samples();
+    self_named_tables();
     [
-        format!("self: S1 to S10 in both numberings, the named tables, {} tables ", count),
-        format!("({} accepted, {} with number 8, {} with 19) ", of(0), of(8), of(19)),
-        format!("and {} policies ({} clean, {} unset marks; ", count, clean, blanks),
-        format!("{} of them by trial on {} tickets) hold\n", tried, tickets),
+        "self: S1 to S10 in both numberings, samples of format 2 and the named tables hold\n".to_string(),
+        self_format(seed, Format::One, count),
+        self_format(seed, Format::Two, count),
+        self_second_format(seed),
+        self_dtds(seed, count),
     ]
     .concat()
-        + &self_dtds(seed, count)
 }

@@ -1,5 +1,5 @@
 // Holds the exported library to the second program on fresh cases: each call, all numbers of its answer, and every lent run afterwards.
-// second/soak builds it and runs it with SEED, COUNT, DTDS and the folder where a case that differs is kept.
+// second/soak builds it and runs it with SEED, COUNT, DTDS, SECOND_FORMAT and the folder where a case that differs is kept.
 
 #[path = "../bindings/rust/src/border.rs"]
 mod border;
@@ -71,7 +71,7 @@ fn fail(what: &str) -> ! {
 }
 
 fn number(text: &str) -> u64 {
-    text.parse().unwrap_or_else(|_| fail("SEED, COUNT and DTDS are numbers"))
+    text.parse().unwrap_or_else(|_| fail("SEED, COUNT, DTDS and SECOND_FORMAT are numbers"))
 }
 
 /// Keeps a case as a stream, and says where.
@@ -82,23 +82,28 @@ fn keep(case: Case, path: &str) -> String {
     }
 }
 
-fn soak(seed: u64, count: usize, dtds: usize, folder: &str) {
+fn soak(seed: u64, counts: [usize; 3], folder: &str) {
+    let [count, dtds, second_format] = counts;
     let mut counts = Counts::new();
-    for (k, case) in making::cases(seed, count, dtds).enumerate() {
+    for (k, case) in making::cases(seed, count, dtds, second_format).enumerate() {
         if let Err(difference) = compare_case(&case, &mut counts) {
             let kept = keep(case, &format!("{}/differs.{}.{}", folder, seed, k));
             let alike = counts.total();
             fail(&format!("{alike} calls alike, then a difference: case {k} of seed {seed}, {kept}\n{difference}"));
         }
     }
-    print!("{} cases of seed {}, {} calls, no difference\n{}", count + dtds, seed, counts.total(), counts.text());
+    let (cases, calls) = (count + dtds + second_format, counts.total());
+    print!("{} cases of seed {}, {} calls, no difference\n{}", cases, seed, calls, counts.text());
 }
 
 fn main() {
     let arguments: Vec<String> = std::env::args().skip(1).collect();
     let arguments: Vec<&str> = arguments.iter().map(String::as_str).collect();
     match arguments[..] {
-        [seed, count, dtds, folder] => soak(number(seed), number(count) as usize, number(dtds) as usize, folder),
-        _ => fail("soak SEED COUNT DTDS FOLDER"),
+        [seed, count, dtds, second_format, folder] => {
+            let counts = [count, dtds, second_format].map(|text| number(text) as usize);
+            soak(number(seed), counts, folder)
+        }
+        _ => fail("soak SEED COUNT DTDS SECOND_FORMAT FOLDER"),
     }
 }

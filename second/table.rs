@@ -1,6 +1,7 @@
 // The schema table: its types, its privileges and their marks, what is below a type, and the call `check`.
 
 use crate::answers::{refuse_at, refuse_if, Answer, Outcome};
+use crate::format::Format;
 
 pub const UNSET: u8 = 0;
 pub const ALLOWED: u8 = 1;
@@ -23,9 +24,10 @@ pub struct Type {
     pub children: Vec<usize>,
 }
 
-/// An accepted table: its types, the first privilege of each type, the type of each
+/// An accepted table: its format, its types, the first privilege of each type, the type of each
 /// privilege, and the privileges below each type in ascending order.
 pub struct Table {
+    pub format: Format,
     pub types: Vec<Type>,
     pub first: Vec<usize>,
     pub owner: Vec<usize>,
@@ -33,15 +35,15 @@ pub struct Table {
 }
 
 impl Table {
-    fn of(types: Vec<Type>) -> Table {
+    fn of(format: Format, types: Vec<Type>) -> Table {
         let mut first = Vec::new();
         let mut owner = Vec::new();
         for (t, it) in types.iter().enumerate() {
             first.push(owner.len());
-            owner.extend(vec![t; privileges_of(it)]);
+            owner.extend(vec![t; privileges_of(format, it)]);
         }
         let below = (0..types.len()).map(|y| privileges_below(&types, &owner, y)).collect();
-        Table { types, first, owner, below }
+        Table { format, types, first, owner, below }
     }
 
     pub fn v(&self) -> usize {
@@ -56,29 +58,50 @@ impl Table {
         self.first[star] + 1
     }
 
+    /// The privilege to replace a star's child by another of its kind, where the format has it.
+    pub fn exchange(&self, star: usize) -> Option<usize> {
+        match self.format {
+            Format::One => None,
+            Format::Two => Some(self.first[star] + 2),
+        }
+    }
+
+    /// Whether insert and delete are both allowed.
+    pub fn allows_both(&self, marks: &[u8], star: usize) -> bool {
+        marks[self.insert(star)] == ALLOWED && marks[self.delete(star)] == ALLOWED
+    }
+
     pub fn replacement(&self, choice: usize, i: usize, j: usize) -> usize {
-        let n = self.types[choice].children.len();
-        let less = if j > i { 1 } else { 0 };
-        self.first[choice] + i * (n - 1) + j - less
+        self.first[choice] + self.format.replacement(self.types[choice].children.len(), i, j)
+    }
+
+    /// Whether a privilege replaces an element by one of its own kind: an exchange, or a replacement of i by i.
+    pub fn is_same_kind(&self, privilege: usize) -> bool {
+        let of = self.owner[privilege];
+        let own = |i: usize| self.replacement(of, i, i) == privilege;
+        match self.types[of].kind {
+            STAR => self.exchange(of) == Some(privilege),
+            CHOICE => self.format == Format::Two && (0..self.types[of].children.len()).any(own),
+            _ => false,
+        }
     }
 
     pub fn allows(&self, marks: &[u8], choice: usize, i: usize, j: usize) -> bool {
-        i != j && marks[self.replacement(choice, i, j)] == ALLOWED
+        self.format.is_replaceable(i, j) && marks[self.replacement(choice, i, j)] == ALLOWED
     }
 }
 
-fn privileges_of(it: &Type) -> usize {
-    let n = it.children.len();
+fn privileges_of(format: Format, it: &Type) -> usize {
     match it.kind {
         TEXT => 1,
-        STAR => 2,
-        CHOICE => n * n - n,
+        STAR => format.privileges_of_star(),
+        CHOICE => format.privileges_of_choice(it.children.len()),
         _ => 0,
     }
 }
 
-pub fn total(types: &[Type]) -> usize {
-    types.iter().map(privileges_of).sum()
+pub fn total(format: Format, types: &[Type]) -> usize {
+    types.iter().map(|it| privileges_of(format, it)).sum()
 }
 
 pub fn types_below(types: &[Type], y: usize) -> Vec<bool> {
@@ -123,9 +146,14 @@ fn has_twice(children: &[usize]) -> bool {
     (0..children.len()).any(|k| children[..k].contains(&children[k]))
 }
 
-/// Numbers 1 to 5; gives the types with their children.
-fn check_records(words: &[u16]) -> Result<Vec<Type>, Answer> {
-    refuse_if(1, words.len() < HEADER || words[0] != 1)?;
+/// Number 1; gives the format.
+fn check_format(words: &[u16]) -> Result<Format, Answer> {
+    let format = if words.len() < HEADER { None } else { Format::of(words[0]) };
+    format.ok_or(Answer { number: 1, ..Answer::default() })
+}
+
+/// Numbers 2 to 5; gives the types with their children.
+pub fn check_records(words: &[u16]) -> Result<Vec<Type>, Answer> {
     refuse_if(2, !header_fits(words))?;
     let (records, list) = words[HEADER..].split_at(RECORD * words[2] as usize);
     let kinds: Vec<u16> = records.chunks(RECORD).map(|record| record[0]).collect();
@@ -148,6 +176,7 @@ pub fn on_cycle(types: &[Type], t: usize) -> bool {
 
 /// Numbers 1 to 7, then 19, then 8 and 9.
 pub fn check_table(words: &[u16]) -> Result<Table, Answer> {
+    let format = check_format(words)?;
     let types = check_records(words)?;
     let e = types.len();
     let strays = |t: usize| types[t].children.iter().any(|&x| x >= e);
@@ -156,9 +185,9 @@ pub fn check_table(words: &[u16]) -> Result<Table, Answer> {
     refuse_at(19, (0..e).find(|&t| on_cycle(&types, t)))?;
     let below_root = types_below(&types, words[3] as usize);
     refuse_at(8, (0..e).find(|&t| !below_root[t]))?;
-    let v = total(&types);
+    let v = total(format, &types);
     refuse_if(9, v > MOST_PRIVILEGES || words[7] as usize != v)?;
-    Ok(Table::of(types))
+    Ok(Table::of(format, types))
 }
 
 pub fn check(words: &[u16]) -> Outcome {

@@ -4,12 +4,12 @@ use super::chance::Random;
 use super::cycles::{closed, unsound, uprooted};
 use super::schemas::{encode, entries_before, numbered, Schema};
 use super::shapes::{dress, dress_as, fill, full_ladder, grown_to, ladder, Lists};
-
+use crate::format::Format;
 use crate::judge::MOST_BYTES;
 use crate::policy_case::PolicyCase;
 use crate::table::{
     Type, CHOICE, EMPTY, HEADER, MOST_CHILDREN, MOST_ENTRIES, MOST_PRIVILEGES, MOST_TYPES, RECORD, STAR,
-    UNSET,
+    TEXT, UNSET,
 };
 
 fn other_word(r: &mut Random, word: u16) -> u16 {
@@ -97,19 +97,28 @@ fn unbalanced(r: &mut Random, mut words: Vec<u16>) -> Vec<u16> {
     words
 }
 
-/// The full ladder with one leaf a star of an empty type: V is 4,097.
-fn one_over(r: &mut Random) -> Vec<Type> {
-    let mut types = full_ladder(r);
-    fill(&mut types, MOST_PRIVILEGES);
+/// The full ladder with one leaf a text, or, where all are texts, a star of an empty type: V is 4,097.
+pub fn one_over(r: &mut Random, format: Format) -> Vec<Type> {
+    let mut types = full_ladder(r, format);
+    fill(format, &mut types, MOST_PRIVILEGES);
     let last = types.len();
-    types[last - 1] = Type { kind: STAR, children: vec![last] };
-    types.push(Type { kind: EMPTY, children: Vec::new() });
+    match format {
+        Format::One => {
+            types[last - 1] = Type { kind: STAR, children: vec![last] };
+            types.push(Type { kind: EMPTY, children: Vec::new() });
+        }
+        Format::Two => types[last - 1].kind = TEXT,
+    }
     types
 }
 
-/// Twenty types with 16 children each, eighteen of them choices: V is at least 4,320.
-fn many_over(r: &mut Random) -> Vec<Type> {
-    dress_as(r, ladder(20, MOST_CHILDREN), 0..18, CHOICE)
+/// Twenty types with 16 children each, of which eighteen or seventeen are choices: V is at least 4,320.
+pub fn many_over(r: &mut Random, format: Format) -> Vec<Type> {
+    let choices = match format {
+        Format::One => 18,
+        Format::Two => 17,
+    };
+    dress_as(r, ladder(20, MOST_CHILDREN), 0..choices, CHOICE)
 }
 
 /// 1,025 entries in the child list.
@@ -122,16 +131,16 @@ fn long_list() -> Lists {
 
 /// A table with every count in keeping but one that is over what document 01 grants; sometimes
 /// with a cycle or with another root besides.
-fn oversized(r: &mut Random) -> Vec<u16> {
+fn oversized(r: &mut Random, format: Format) -> Vec<u16> {
     let types = match r.below(16) {
         0 => grown_to(r, MOST_TYPES + 1, 3, 0),
         1 => dress(r, long_list()),
-        2 => return encode(&[]),
-        3..=5 => one_over(r),
-        6..=8 => many_over(r),
+        2 => return encode(format, &[]),
+        3..=5 => one_over(r, format),
+        6..=8 => many_over(r, format),
         _ => dress(r, ladder(2, MOST_CHILDREN + 1)),
     };
-    let schema = numbered(r, types);
+    let schema = numbered(r, format, types);
     let schema = match r.below(4) {
         0 => closed(r, &schema),
         1 => uprooted(r, &schema),
@@ -141,7 +150,7 @@ fn oversized(r: &mut Random) -> Vec<u16> {
 }
 
 /// Another run of words, as a rule of another length.
-fn resized(r: &mut Random, mut words: Vec<u16>) -> Vec<u16> {
+fn resized(r: &mut Random, format: Format, mut words: Vec<u16>) -> Vec<u16> {
     let at = r.below(words.len());
     match r.below(10) {
         0 => drop(words.remove(at)),
@@ -150,7 +159,7 @@ fn resized(r: &mut Random, mut words: Vec<u16>) -> Vec<u16> {
         3 => words.truncate(r.pick(&[at, 0, 1, 2, 7, 8])),
         4 => words = (0..r.below(40)).map(|_| r.next() as u16 % 9).collect(),
         5 | 6 => words = unbalanced(r, words),
-        _ => words = oversized(r),
+        _ => words = oversized(r, format),
     }
     words
 }
@@ -184,7 +193,7 @@ fn spoil_table(r: &mut Random, schema: &Schema, case: &mut PolicyCase) {
         bend(r, &schema.types, &mut case.words);
     }
     if r.one_in(3) {
-        case.words = resized(r, case.words.clone());
+        case.words = resized(r, schema.format, case.words.clone());
     }
 }
 

@@ -14,7 +14,6 @@ pub mod written;
 use super::chance::Random;
 use crate::dtd::declared;
 use crate::dtd_case::DtdCase;
-use crate::making::schemas::encode;
 use aimed::{large_ways, ways, ways_by_bytes, ways_by_whole, Aimed, Way};
 use damage::damaged;
 use pieces::{pieces, text_of, Piece};
@@ -68,7 +67,7 @@ fn lent_of(r: &mut Random, length: usize) -> Vec<u16> {
 
 /// How many words the table of a text has; none where it is refused before.
 fn words_of(text: &[u8]) -> usize {
-    declared(text).map_or(0, |declared| encode(&declared.types).len())
+    declared(text).map_or(0, |declared| declared.words().len())
 }
 
 /// A result with room for so many words, as a rule.

@@ -4,6 +4,7 @@ use super::case_of;
 use super::chance::Random;
 use super::schemas::numbered;
 use super::shapes::{full_ladder, large, long_chain, usual_shape};
+use crate::format::Format;
 use crate::judge::{found, outcome, outcomes, MOST_BYTES};
 use crate::stream::{put_bytes, to_words};
 use crate::table::{Type, EMPTY, HEADER, MOST_PRIVILEGES, SEQUENCE};
@@ -66,18 +67,18 @@ fn bare(mut types: Vec<Type>) -> Vec<Type> {
 }
 
 /// More often large, and more often without a privilege, than in the cases.
-fn file_shape(r: &mut Random) -> Vec<Type> {
+fn file_shape(r: &mut Random, format: Format) -> Vec<Type> {
     match r.below(64) {
-        0 => large(r, MOST_PRIVILEGES),
-        1 => full_ladder(r),
+        0 => large(r, format, MOST_PRIVILEGES),
+        1 => full_ladder(r, format),
         2 => long_chain(r),
-        3..=5 => bare(usual_shape(r)),
-        _ => usual_shape(r),
+        3..=5 => bare(usual_shape(r, format)),
+        _ => usual_shape(r, format),
     }
 }
 
-fn file_of(r: &mut Random, types: Vec<Type>) -> Vec<u8> {
-    let schema = numbered(r, types);
+fn file_of(r: &mut Random, format: Format, types: Vec<Type>) -> Vec<u8> {
+    let schema = numbered(r, format, types);
     let mut file = case_of(r, &schema).file();
     if r.one_in(4) {
         damage(r, &mut file);
@@ -85,35 +86,51 @@ fn file_of(r: &mut Random, types: Vec<Type>) -> Vec<u8> {
     file
 }
 
-fn any_file(r: &mut Random) -> Vec<u8> {
-    let types = file_shape(r);
-    file_of(r, types)
+fn any_file(r: &mut Random, format: Format) -> Vec<u8> {
+    let types = file_shape(r, format);
+    file_of(r, format, types)
 }
 
-fn file_with(r: &mut Random, wanted: (usize, usize)) -> Vec<u8> {
+fn word_0_is(file: &[u8], format: Format) -> bool {
+    to_words(file).first() == Some(&format.word())
+}
+
+/// What a file came to. Those of format 1 are made as they were before there was another: a word 0 of 2 is refused with 1.
+fn came_to(format: Format, file: &[u8]) -> (usize, usize) {
+    let is_bent = format == Format::One && word_0_is(file, Format::Two);
+    if is_bent && file.len() <= MOST_BYTES {
+        return (1, 0);
+    }
+    outcome(&found(file))
+}
+
+fn file_with(r: &mut Random, format: Format, wanted: (usize, usize)) -> Vec<u8> {
     loop {
-        let types = usual_shape(r);
-        let file = file_of(r, types);
-        if outcome(&found(&file)) == wanted {
+        let types = usual_shape(r, format);
+        let file = file_of(r, format, types);
+        if came_to(format, &file) == wanted {
             return file;
         }
     }
 }
 
-/// The named files, then random ones, every second of them with the outcome whose turn it is.
-pub fn random(seed: u64, count: usize, named: &[Vec<u8>]) -> Vec<u8> {
+/// So many files, every second of them with the outcome whose turn it is.
+fn files(seed: u64, format: Format, count: usize) -> impl Iterator<Item = Vec<u8>> {
     let mut r = Random(seed);
-    let mut stream = Vec::new();
-    for file in named {
-        put_bytes(&mut stream, file);
-    }
     let outcomes = outcomes();
-    for k in 0..count {
-        let file = match k % 2 {
-            0 => any_file(&mut r),
-            _ => file_with(&mut r, outcomes[k / 2 % outcomes.len()]),
-        };
-        put_bytes(&mut stream, &file);
-    }
+    (0..count).map(move |k| match k % 2 {
+        0 => any_file(&mut r, format),
+        _ => file_with(&mut r, format, outcomes[k / 2 % outcomes.len()]),
+    })
+}
+
+/// The named files and so many random ones, and then the same of format 2.
+pub fn random(seed: u64, count: usize, second_format: usize, named: Vec<Vec<u8>>) -> Vec<u8> {
+    let (named_two, named_one): (Vec<_>, Vec<_>) =
+        named.into_iter().partition(|file| word_0_is(file, Format::Two));
+    let of_one = named_one.into_iter().chain(files(seed, Format::One, count));
+    let of_two = named_two.into_iter().chain(files(seed, Format::Two, second_format));
+    let mut stream = Vec::new();
+    of_one.chain(of_two).for_each(|file| put_bytes(&mut stream, &file));
     stream
 }

@@ -3,8 +3,9 @@
 use super::chance::Random;
 use crate::completing::completion;
 use crate::conditions::first_breach;
+use crate::format::Format;
 use crate::mending::mended;
-use crate::table::{Table, ALLOWED, CHOICE, FORBIDDEN, UNSET};
+use crate::table::{Table, ALLOWED, CHOICE, FORBIDDEN, STAR, TEXT, UNSET};
 
 /// How many in turn are unset, allowed, forbidden.
 const MIXES: [[usize; 3]; 13] = [
@@ -49,6 +50,27 @@ fn chain(r: &mut Random, table: &Table, marks: &mut [u8]) {
     }
 }
 
+/// Which kind of edit a privilege is for: text, insert, delete, exchange, replacement by another kind or by the same.
+fn edit_of(table: &Table, privilege: usize) -> usize {
+    let of = table.owner[privilege];
+    match table.types[of].kind {
+        TEXT => 0,
+        STAR => 1 + privilege - table.first[of],
+        _ => 4 + table.is_same_kind(privilege) as usize,
+    }
+}
+
+/// Each kind of edit with the same mark everywhere, or at half of the places.
+fn by_edit(r: &mut Random, table: &Table, marks: &mut [u8]) {
+    let every = r.one_in(2);
+    let own: Vec<u8> = (0..6).map(|_| r.pick(&[UNSET, ALLOWED, FORBIDDEN])).collect();
+    for (privilege, mark) in marks.iter_mut().enumerate() {
+        if every || r.one_in(2) {
+            *mark = own[edit_of(table, privilege)];
+        }
+    }
+}
+
 fn change_one(r: &mut Random, marks: &mut [u8]) {
     if !marks.is_empty() {
         let p = r.below(marks.len());
@@ -59,6 +81,9 @@ fn change_one(r: &mut Random, marks: &mut [u8]) {
 pub fn policy(r: &mut Random, table: &Table) -> Vec<u8> {
     let mix = r.pick(&MIXES);
     let mut marks = mixed(r, table.v(), mix);
+    if table.format == Format::Two && r.one_in(2) {
+        by_edit(r, table, &mut marks);
+    }
     if r.one_in(4) {
         chain(r, table, &mut marks);
     }

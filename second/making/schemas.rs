@@ -2,12 +2,14 @@
 
 use super::chance::Random;
 use super::shapes::shape;
+use crate::format::Format;
 use crate::table::{total, Type, HEADER, RECORD};
 
-pub fn encode(types: &[Type]) -> Vec<u16> {
+pub fn encode(format: Format, types: &[Type]) -> Vec<u16> {
     let entries: usize = types.iter().map(|it| it.children.len()).sum();
     let list = HEADER + RECORD * types.len();
-    let header = [1, list + entries, types.len(), 0, HEADER, entries, list, total(types)];
+    let v = total(format, types);
+    let header = [format.word() as usize, list + entries, types.len(), 0, HEADER, entries, list, v];
     let mut words: Vec<u16> = header.iter().map(|&word| word as u16).collect();
     for (t, it) in types.iter().enumerate() {
         words.extend([it.kind, it.children.len() as u16, entries_before(types, t) as u16]);
@@ -20,21 +22,22 @@ pub fn entries_before(types: &[Type], t: usize) -> usize {
     types[..t].iter().map(|it| it.children.len()).sum()
 }
 
-/// Types in any numbering, and which of them is the root. (A shape is types alone: its root is
-/// type 0, and each child has a greater number than its parent.)
+/// A format, types in any numbering, and which of them is the root. (A shape is types alone: its
+/// root is type 0, and each child has a greater number than its parent.)
 pub struct Schema {
+    pub format: Format,
     pub root: usize,
     pub types: Vec<Type>,
 }
 
 impl Schema {
     /// Type 0 is the root.
-    pub fn of(types: Vec<Type>) -> Schema {
-        Schema { root: 0, types }
+    pub fn of(format: Format, types: Vec<Type>) -> Schema {
+        Schema { format, root: 0, types }
     }
 
     pub fn words(&self) -> Vec<u16> {
-        let mut words = encode(&self.types);
+        let mut words = encode(self.format, &self.types);
         words[3] = self.root as u16;
         words
     }
@@ -46,7 +49,7 @@ impl Schema {
             let children = it.children.iter().map(|&x| numbers[x]).collect();
             types[numbers[t]] = Type { kind: it.kind, children };
         }
-        Schema { root: numbers[self.root], types }
+        Schema { format: self.format, root: numbers[self.root], types }
     }
 
     pub fn backwards(&self) -> Schema {
@@ -66,8 +69,8 @@ pub fn chance_numbers(r: &mut Random, e: usize) -> Vec<usize> {
 }
 
 /// A shape with its own numbers, with those backwards, or with numbers by chance.
-pub fn numbered(r: &mut Random, types: Vec<Type>) -> Schema {
-    let schema = Schema::of(types);
+pub fn numbered(r: &mut Random, format: Format, types: Vec<Type>) -> Schema {
+    let schema = Schema::of(format, types);
     match r.below(16) {
         0..=6 => schema,
         7 | 8 => schema.backwards(),
@@ -75,7 +78,7 @@ pub fn numbered(r: &mut Random, types: Vec<Type>) -> Schema {
     }
 }
 
-pub fn schema(r: &mut Random) -> Schema {
-    let types = shape(r);
-    numbered(r, types)
+pub fn schema(r: &mut Random, format: Format) -> Schema {
+    let types = shape(r, format);
+    numbered(r, format, types)
 }

@@ -1,6 +1,7 @@
 // Shapes: types whose root is type 0, each child with a greater number than its parent.
 
 use super::chance::Random;
+use crate::format::Format;
 use crate::table::{
     total, Type, CHOICE, EMPTY, MOST_CHILDREN, MOST_ENTRIES, MOST_PRIVILEGES, MOST_TYPES, SEQUENCE, STAR,
     TEXT,
@@ -77,20 +78,20 @@ pub fn dress_as(r: &mut Random, lists: Lists, which: Range<usize>, kind: u16) ->
 }
 
 /// Turns choices into sequences until at most `most` privileges are left, or no choice is.
-fn fit(r: &mut Random, types: &mut [Type], most: usize) {
+fn fit(r: &mut Random, format: Format, types: &mut [Type], most: usize) {
     let mut order: Vec<usize> = (0..types.len()).collect();
     r.shuffle(&mut order);
     for t in order {
-        if types[t].kind == CHOICE && total(types) > most {
+        if types[t].kind == CHOICE && total(format, types) > most {
             types[t].kind = SEQUENCE;
         }
     }
 }
 
 /// Turns empty types into text until `most` privileges are there or none is left.
-pub fn fill(types: &mut [Type], most: usize) {
+pub fn fill(format: Format, types: &mut [Type], most: usize) {
     for t in 0..types.len() {
-        if types[t].kind == EMPTY && total(types) < most {
+        if types[t].kind == EMPTY && total(format, types) < most {
             types[t].kind = TEXT;
         }
     }
@@ -129,6 +130,11 @@ fn grown(r: &mut Random, near: usize, shared: usize) -> Vec<Type> {
 /// A choice of 1, 2, 3, 15 or 16 children under a type with one child.
 fn wide(r: &mut Random) -> Vec<Type> {
     let n = r.pick(&[1, 2, 2, 3, 3, 3, 3, 3, 3, 15, 16]);
+    wide_of(r, n)
+}
+
+/// A choice of n children under a type with one child, and up to five further types.
+pub fn wide_of(r: &mut Random, n: usize) -> Vec<Type> {
     let e = n + 2 + r.below(6);
     let mut lists = vec![vec![1], Vec::new()];
     add_leaves(&mut lists, 1, n);
@@ -142,19 +148,34 @@ fn rungs(r: &mut Random) -> Vec<Type> {
 }
 
 /// Many types, a full child list, as many privileges as are wanted or nearly.
-pub fn large(r: &mut Random, most: usize) -> Vec<Type> {
+pub fn large(r: &mut Random, format: Format, most: usize) -> Vec<Type> {
     let e = r.pick(&[200, MOST_TYPES, MOST_TYPES]);
     let mut types = grown_to(r, e, e, 40);
-    fit(r, &mut types, most);
-    fill(&mut types, most);
+    fit(r, format, &mut types, most);
+    fill(format, &mut types, most);
     types
 }
 
-/// Seventeen choices of 16, one below the other, over 16 leaves: V from 4,080 to 4,096.
-pub fn full_ladder(r: &mut Random) -> Vec<Type> {
+/// Choices of 16, one below the other, over 16 leaves.
+pub fn full_ladder(r: &mut Random, format: Format) -> Vec<Type> {
+    match format {
+        Format::One => full_ladder_one(r),
+        Format::Two => full_ladder_two(r),
+    }
+}
+
+/// Seventeen choices: V from 4,080 to 4,096.
+fn full_ladder_one(r: &mut Random) -> Vec<Type> {
     let mut types = dress_as(r, ladder(17, MOST_CHILDREN), 0..17, CHOICE);
     let most = MOST_PRIVILEGES - r.below(3);
-    fill(&mut types, most);
+    fill(Format::One, &mut types, most);
+    types
+}
+
+/// Sixteen choices over empty leaves: V is 4,096.
+fn full_ladder_two(r: &mut Random) -> Vec<Type> {
+    let mut types = dress_as(r, ladder(16, MOST_CHILDREN), 0..16, CHOICE);
+    types[16..].iter_mut().for_each(|it| it.kind = EMPTY);
     types
 }
 
@@ -167,18 +188,18 @@ pub fn long_chain(r: &mut Random) -> Vec<Type> {
     types
 }
 
-pub fn shape(r: &mut Random) -> Vec<Type> {
+pub fn shape(r: &mut Random, format: Format) -> Vec<Type> {
     if r.one_in(600) {
         let most = r.pick(&[MOST_PRIVILEGES, MOST_PRIVILEGES, MOST_PRIVILEGES - 1, 2500]);
-        return large(r, most);
+        return large(r, format, most);
     }
     if r.one_in(1200) {
-        return full_ladder(r);
+        return full_ladder(r, format);
     }
-    usual_shape(r)
+    usual_shape(r, format)
 }
 
-pub fn usual_shape(r: &mut Random) -> Vec<Type> {
+pub fn usual_shape(r: &mut Random, format: Format) -> Vec<Type> {
     let mut types = match r.below(16) {
         0 => dress(r, vec![Vec::new()]),
         1 | 2 => star_of_stars(r),
@@ -189,6 +210,6 @@ pub fn usual_shape(r: &mut Random) -> Vec<Type> {
         11..=13 => grown(r, 2, 1),
         _ => grown(r, MOST_TYPES, 1),
     };
-    fit(r, &mut types, 300);
+    fit(r, format, &mut types, 300);
     types
 }

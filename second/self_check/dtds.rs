@@ -7,15 +7,12 @@ mod languages;
 mod numbering;
 mod texts;
 
-use super::expect;
+use super::{expect, OFTEN};
 use crate::making::chance::Random;
 use grammar::self_grammar;
 use known::self_known;
 use languages::{self_all_models, self_any_model};
 use texts::covered;
-
-/// How often at least each answer is to come, by each rule and in each way.
-const OFTEN: usize = 20;
 
 /// The models that are all tried have so many bytes at most.
 const LONGEST: usize = 10;

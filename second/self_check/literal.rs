@@ -1,5 +1,9 @@
-// The conditions and the mending rule read literally, apart from the other files.
+// The conditions and the mending rule read literally, each format by itself, apart from the other files.
 
+mod format_one;
+mod format_two;
+
+use crate::format::Format;
 use crate::table::{Table, Type, ALLOWED, CHOICE, FORBIDDEN, STAR};
 
 /// Which of n things lead to which by one or more steps, by Warshall's rule.
@@ -20,9 +24,35 @@ fn is_below(types: &[Type], x: usize, y: usize) -> bool {
     x == y || types[y].children.iter().any(|&child| is_below(types, x, child))
 }
 
+fn forbidden_below(table: &Table, marks: &[u8], y: usize) -> Vec<usize> {
+    let below = |p: usize| is_below(&table.types, table.owner[p], y);
+    (0..table.v()).filter(|&p| marks[p] == FORBIDDEN && below(p)).collect()
+}
+
+/// What one format says.
+struct Sentences {
+    /// The privileges that condition 1 can name at a star; it names the lowest of them.
+    star: fn(&Table, &[u8], usize) -> Vec<usize>,
+    /// The privilege to replace i by j at a choice, if there is one.
+    replacement: fn(&Table, usize, usize, usize) -> Option<usize>,
+    /// What mending condition 1 forbids at a star.
+    mended: fn(&Table, &[u8], usize) -> usize,
+}
+
+fn sentences(table: &Table) -> Sentences {
+    match table.format {
+        Format::One => format_one::SENTENCES,
+        Format::Two => format_two::SENTENCES,
+    }
+}
+
+fn allows(table: &Table, marks: &[u8], t: usize, i: usize, j: usize) -> bool {
+    (sentences(table).replacement)(table, t, i, j).map_or(false, |p| marks[p] == ALLOWED)
+}
+
 /// Which positions of a choice lead to which by allowed replacements.
 fn closure(table: &Table, marks: &[u8], t: usize) -> Vec<Vec<bool>> {
-    warshall(table.types[t].children.len(), |i, j| table.allows(marks, t, i, j))
+    warshall(table.types[t].children.len(), |i, j| allows(table, marks, t, i, j))
 }
 
 /// Every breach, read from the three conditions literally and apart from `forced`, as type,
@@ -31,7 +61,7 @@ pub fn breaches(table: &Table, marks: &[u8]) -> Vec<[usize; 5]> {
     let mut found = Vec::new();
     for (t, it) in table.types.iter().enumerate() {
         match it.kind {
-            STAR => star_breaches(table, marks, t, &mut found),
+            STAR => found.extend((sentences(table).star)(table, marks, t).iter().map(|&p| [t, 1, 0, 0, p])),
             CHOICE => choice_breaches(table, marks, t, &mut found),
             _ => (),
         }
@@ -39,25 +69,14 @@ pub fn breaches(table: &Table, marks: &[u8]) -> Vec<[usize; 5]> {
     found
 }
 
-fn forbidden_below(table: &Table, marks: &[u8], y: usize) -> Vec<usize> {
-    let below = |p: usize| is_below(&table.types, table.owner[p], y);
-    (0..table.v()).filter(|&p| marks[p] == FORBIDDEN && below(p)).collect()
-}
-
-fn star_breaches(table: &Table, marks: &[u8], t: usize, found: &mut Vec<[usize; 5]>) {
-    let both = marks[table.first[t]..table.first[t] + 2] == [ALLOWED, ALLOWED];
-    let below = forbidden_below(table, marks, table.types[t].children[0]);
-    found.extend(below.iter().filter(|_| both).map(|&p| [t, 1, 0, 0, p]));
-}
-
 fn choice_breaches(table: &Table, marks: &[u8], t: usize, found: &mut Vec<[usize; 5]>) {
     let leads = closure(table, marks, t);
     for (i, &child) in table.types[t].children.iter().enumerate() {
         for j in (0..leads.len()).filter(|&j| leads[i][j]) {
+            let replacement = (sentences(table).replacement)(table, t, i, j);
+            found.extend(replacement.filter(|&p| marks[p] == FORBIDDEN).map(|p| [t, 2, i, j, p]));
             if i == j {
                 found.extend(forbidden_below(table, marks, child).iter().map(|&p| [t, 3, i, i, p]));
-            } else if marks[table.replacement(t, i, j)] == FORBIDDEN {
-                found.push([t, 2, i, j, table.replacement(t, i, j)]);
             }
         }
     }
@@ -67,16 +86,21 @@ pub fn passes(table: &Table, marks: &[u8]) -> bool {
     breaches(table, marks).is_empty()
 }
 
+/// The lowest k such that the replacement of i by it is allowed and k is j or j is reached from k.
+fn lowest_k(table: &Table, marks: &[u8], t: usize, i: usize, j: usize) -> usize {
+    let leads = closure(table, marks, t);
+    let fits = |&k: &usize| allows(table, marks, t, i, k) && (k == j || leads[k][j]);
+    (0..leads.len()).find(fits).expect("a first step")
+}
+
 /// The mending rule read literally: the least breach, the least k.
 pub fn mended_literally(table: &Table, marks: &[u8]) -> Vec<u8> {
+    let Sentences { mended, replacement, .. } = sentences(table);
     let mut now = marks.to_vec();
     while let Some([of, condition, i, j, _]) = breaches(table, &now).into_iter().min() {
-        let taken = if condition == 1 {
-            table.first[of] + 1
-        } else {
-            let leads = closure(table, &now, of);
-            let fits = |&k: &usize| table.allows(&now, of, i, k) && (k == j || leads[k][j]);
-            table.replacement(of, i, (0..leads.len()).find(fits).expect("a first step"))
+        let taken = match condition {
+            1 => mended(table, &now, of),
+            _ => replacement(table, of, i, lowest_k(table, &now, of, i, j)).expect("an allowed replacement"),
         };
         now[taken] = FORBIDDEN;
     }

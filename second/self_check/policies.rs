@@ -1,17 +1,19 @@
-// Small policies by chance: against what is read literally, against all their fully decided extensions, and in another numbering.
+// Small policies: against what is read literally, against all their fully decided extensions, in another numbering and in format 2.
 
 use super::expect;
 use super::literal::{breaches, mended_literally, passes};
+use super::tickets::self_tickets;
 use crate::answers::{answer, Answer, Breach};
 use crate::completing::complete;
-use crate::conditions::verdict;
+use crate::conditions::{first_breach, verdict};
+use crate::format::Format;
 use crate::making::chance::Random;
 use crate::making::policies::policy;
 use crate::making::schemas::{chance_numbers, schema, Schema};
-use crate::mending::{judge_mend, mend};
+use crate::mending::{judge_mend, mend, mended};
 use crate::table::{check_table, Table, ALLOWED, FORBIDDEN, UNSET};
 
-pub fn self_verdict(words: &[u16], table: &Table, marks: &[u8]) {
+fn self_verdict(words: &[u16], table: &Table, marks: &[u8]) {
     let least = breaches(table, marks).into_iter().min().unwrap_or([0; 5]);
     let [of, condition, i, j, privilege] = least;
     let breach = Breach { condition, of, i, j, privilege };
@@ -41,7 +43,7 @@ fn completed(words: &[u16], marks: &[u8]) -> Option<Vec<u8>> {
 }
 
 /// Demand 3 literally; tells whether the policy could be completed.
-pub fn self_completion(words: &[u16], table: &Table, marks: &[u8]) -> bool {
+fn self_completion(words: &[u16], table: &Table, marks: &[u8]) -> bool {
     let clean = clean_extensions(table, marks);
     let found = completed(words, marks);
     expect(found.is_none() == clean.is_empty(), "refused exactly if there is no clean extension");
@@ -53,7 +55,7 @@ pub fn self_completion(words: &[u16], table: &Table, marks: &[u8]) -> bool {
     found.is_some()
 }
 
-pub fn self_one_more(words: &[u16], marks: &[u8]) {
+fn self_one_more(words: &[u16], marks: &[u8]) {
     let earlier = completed(words, marks);
     for p in (0..marks.len()).filter(|&p| marks[p] == UNSET) {
         for mark in [ALLOWED, FORBIDDEN] {
@@ -67,7 +69,7 @@ pub fn self_one_more(words: &[u16], marks: &[u8]) {
     }
 }
 
-pub fn self_mend(words: &[u16], table: &Table, marks: &[u8]) {
+fn self_mend(words: &[u16], table: &Table, marks: &[u8]) {
     let mut out = vec![9; marks.len()];
     let done = answer(mend(words, marks, &mut out));
     expect(out == mended_literally(table, marks), "a mend is what the rule gives");
@@ -101,10 +103,43 @@ pub fn self_renumbered(r: &mut Random, schema: &Schema, table: &Table, marks: &[
     expect(completed(&other, &after) == expected, "the same completion in every numbering");
 }
 
+/// The marks of a policy of format 1 in the table of the same types in format 2, where replacements by the same kind are unset.
+fn in_format_two(from: &Table, to: &Table, marks: &[u8]) -> Vec<u8> {
+    let edits: Vec<usize> = (0..to.v()).filter(|&p| !to.is_same_kind(p)).collect();
+    expect(edits.len() == from.v(), "format 2 has the edits of format 1 and those by the same kind");
+    let mut after = vec![UNSET; to.v()];
+    edits.iter().zip(marks).for_each(|(&p, &mark)| after[p] = mark);
+    after
+}
+
+/// In format 2, as long as replacements by the same kind are unset, a policy is broken and mended as in format 1.
+fn self_in_format_two(schema: &Schema, table: &Table, marks: &[u8]) {
+    let words = Schema { format: Format::Two, types: schema.types.clone(), ..*schema }.words();
+    let to = check_table(&words).expect("a small table is accepted in both formats");
+    let carried = |marks: &[u8]| in_format_two(table, &to, marks);
+    let (first, other) = (first_breach(table, marks), first_breach(&to, &carried(marks)));
+    let place = |breach: Option<Breach>| breach.map(|at| (at.condition, at.of, at.i, at.j));
+    expect(place(first) == place(other), "the same breach in format 2");
+    let (count, after) = mended(table, marks);
+    expect(mended(&to, &carried(marks)) == (count, carried(&after)), "the same mend in format 2");
+}
+
+/// All of these; tells whether the policy could be completed, and on how many tickets it was tried.
+pub fn self_policy(schema: &Schema, table: &Table, marks: &[u8]) -> (bool, usize) {
+    let words = schema.words();
+    self_verdict(&words, table, marks);
+    self_one_more(&words, marks);
+    self_mend(&words, table, marks);
+    if table.format == Format::One {
+        self_in_format_two(schema, table, marks);
+    }
+    (self_completion(&words, table, marks), self_tickets(schema, table, marks))
+}
+
 /// A small table and a policy with at most ten unset marks.
-pub fn small_policy(r: &mut Random) -> (Schema, Table, Vec<u8>) {
+pub fn small_policy(r: &mut Random, format: Format) -> (Schema, Table, Vec<u8>) {
     loop {
-        let schema = schema(r);
+        let schema = schema(r, format);
         let table = check_table(&schema.words()).expect("a shape is accepted in every numbering");
         if table.v() == 0 || table.v() > 20 || table.types.len() > 12 {
             continue;

@@ -1,9 +1,10 @@
-// S1 to S10, in document 01's numbering and with the types in alphabetical order.
+// S1 to S10, in document 01's numbering and with the types in alphabetical order; and samples of both in format 2.
 
 use super::expect;
 use crate::answers::{Answer, Breach};
 use crate::completing::complete;
 use crate::conditions::verdict;
+use crate::format::Format;
 use crate::judge::judge;
 use crate::making::schemas::Schema;
 use crate::mending::{judge_mend, mend};
@@ -55,6 +56,59 @@ const ALPHABETICAL_SAMPLES: [Sample; 9] = [
 
 const ALPHABETICAL_S5_LINES: &str = "table 0 11\nverdict 2 7 0 2 6\ncomplete none\nmended 1 00000220100\n";
 
+/// Word 0 and V of both numberings in format 2; the other words are the same.
+fn of_two(words: &[u16; 39]) -> [u16; 39] {
+    let mut words = *words;
+    words[0] = 2;
+    words[7] = 15;
+    words
+}
+
+/// Of format 2, worked out by hand. Privileges: 0 insert layer, 1 delete layer, 2 exchange layer, 3 name, 4 range, 5 to 13 the
+/// replacements (0,0) (0,1) (0,2) (1,0) (1,1) (1,2) (2,0) (2,1) (2,2), 14 text of final.
+const SAMPLES_OF_TWO: [Sample; 18] = [
+    ("000000000000000", [0, 0, 0, 0, 0], Some("222222222222222"), 0, "000000000000000"),
+    // insert and delete: they force the exchange and what is below
+    ("110000000000000", [0, 0, 0, 0, 0], Some("111111111111111"), 0, "110000000000000"),
+    ("112000000000000", [1, 0, 0, 0, 2], None, 1, "122000000000000"),
+    ("112020000000000", [1, 0, 0, 0, 2], None, 1, "122020000000000"),
+    ("110020000000000", [1, 0, 0, 0, 4], None, 1, "120020000000000"),
+    // the exchange: it forces what is below
+    ("001000000000000", [0, 0, 0, 0, 0], Some("221111111111111"), 0, "001000000000000"),
+    ("001020000000000", [1, 0, 0, 0, 4], None, 1, "002020000000000"),
+    ("121020000000000", [1, 0, 0, 0, 4], None, 1, "122020000000000"),
+    ("111020000000000", [1, 0, 0, 0, 4], None, 2, "122020000000000"),
+    ("102020000000000", [0, 0, 0, 0, 0], Some("122222222222222"), 0, "102020000000000"),
+    // draft to held and back: each is reached from itself
+    ("000000101000000", [0, 0, 0, 0, 0], Some("222221121122222"), 0, "000000101000000"),
+    ("000002101000000", [2, 4, 0, 0, 5], None, 1, "000002201000000"),
+    ("000000101200000", [2, 4, 1, 1, 9], None, 1, "000000102200000"),
+    // held to final and back: final has a text
+    ("000000000010102", [3, 4, 2, 2, 14], None, 1, "000000000010202"),
+    // a same-kind step at final, and one at draft, which has nothing below
+    ("000000000000010", [0, 0, 0, 0, 0], Some("222222222222211"), 0, "000000000000010"),
+    ("000000000000012", [3, 4, 2, 2, 14], None, 1, "000000000000022"),
+    ("000001000000000", [0, 0, 0, 0, 0], Some("222221222222222"), 0, "000001000000000"),
+    // draft to held to final with a same-kind step at draft: the lowest k is draft itself, and then held
+    ("000001120010000", [2, 4, 0, 2, 7], None, 2, "000002220010000"),
+];
+
+/// The same in alphabetical order: privilege 0, the text of final, is lower than the exchange, 3.
+const ALPHABETICAL_SAMPLES_OF_TWO: [Sample; 3] = [
+    ("211000000000000", [1, 3, 0, 0, 0], None, 1, "212000000000000"),
+    ("211200000000000", [1, 3, 0, 0, 3], None, 1, "212200000000000"),
+    ("211100000000000", [1, 3, 0, 0, 0], None, 2, "212200000000000"),
+];
+
+fn self_of_two() {
+    for (k, sample) in SAMPLES_OF_TWO.iter().enumerate() {
+        self_sample(&of_two(&SAMPLE), sample, &format!("sample {} of format 2", k));
+    }
+    for (k, sample) in ALPHABETICAL_SAMPLES_OF_TWO.iter().enumerate() {
+        self_sample(&of_two(&ALPHABETICAL), sample, &format!("alphabetical sample {} of format 2", k));
+    }
+}
+
 fn digits(text: &str) -> Vec<u8> {
     text.bytes().map(|byte| byte - b'0').collect()
 }
@@ -63,14 +117,14 @@ fn self_sample(words: &[u16], sample: &Sample, name: &str) {
     let (marks, [condition, of, i, j, privilege], completed, count, after) = *sample;
     let breach = Breach { condition, of, i, j, privilege };
     let marks = digits(marks);
-    let mut out = vec![7; 12];
+    let mut out = vec![7; marks.len() + 1];
     expect(verdict(words, &marks) == Ok(Answer { breach, ..Answer::default() }), name);
     let done = complete(words, &marks, &mut out);
     match completed {
         Some(text) => expect(done.is_ok() && out == [digits(text), vec![7]].concat(), name),
         None => {
             expect(done == Err(Answer { number: 16, breach, ..Answer::default() }), name);
-            expect(out == vec![7; 12], name);
+            expect(out == vec![7; marks.len() + 1], name);
         }
     }
     expect(mend(words, &marks, &mut out) == Ok(Answer { count, ..Answer::default() }), name);
@@ -85,7 +139,7 @@ fn self_proposals(words: &[u16], from: &str, accepted: &str, refused: &str, plac
     expect(refusal == Err(Answer { number: 15, place, ..Answer::default() }), "sample S10");
 }
 
-fn self_samples(words: &[u16], samples: &[Sample], s5_lines: &str) {
+fn self_numbering(words: &[u16], samples: &[Sample], s5_lines: &str) {
     for (k, sample) in samples.iter().enumerate() {
         self_sample(words, sample, &format!("sample S{}", k + 1));
     }
@@ -93,12 +147,17 @@ fn self_samples(words: &[u16], samples: &[Sample], s5_lines: &str) {
     expect(judge(&s5) == s5_lines, "the four lines of S5");
 }
 
-pub fn self_both_numberings() {
-    self_samples(&SAMPLE, &SAMPLES, S5_LINES);
+pub fn self_samples() {
+    self_both_numberings();
+    self_of_two();
+}
+
+fn self_both_numberings() {
+    self_numbering(&SAMPLE, &SAMPLES, S5_LINES);
     self_proposals(&SAMPLE, "11020000000", "12020000000", "11000000000", 3);
-    self_samples(&ALPHABETICAL, &ALPHABETICAL_SAMPLES, ALPHABETICAL_S5_LINES);
+    self_numbering(&ALPHABETICAL, &ALPHABETICAL_SAMPLES, ALPHABETICAL_S5_LINES);
     self_proposals(&ALPHABETICAL, "01102000000", "01202000000", "01100000000", 4);
     let sample = check_table(&SAMPLE).expect("the sample schema is accepted");
-    let alphabetical = Schema::of(sample.types).renumbered(&[3, 4, 5, 6, 7, 0, 2, 1]);
+    let alphabetical = Schema::of(Format::One, sample.types).renumbered(&[3, 4, 5, 6, 7, 0, 2, 1]);
     expect(alphabetical.words() == ALPHABETICAL, "the types in alphabetical order");
 }

@@ -2,9 +2,10 @@
 //! completes and mends the policy, and judges a mend that somebody proposes.
 //!
 //! `words` is the schema table and `marks` the policy, one byte for each of its V privileges: [`UNSET`], [`ALLOWED`] or [`FORBIDDEN`].
-//! `include/finnedscarf.h` has the layout of the table, the table of a DTD text and the numbers of the privileges. Every call takes every
-//! input: what is no table, no DTD text or no policy is a [`Refusal`], and a refused call leaves its `out` as it was. No call allocates,
-//! and none keeps anything.
+//! `include/finnedscarf.h` has the layout of the table, the table of a DTD text and the numbers of the privileges. Word 0 of a table is its
+//! format, 1 or 2; in format 2 there are privileges to replace an element by another of its own kind too. Every call takes every input: what
+//! is no table, no DTD text or no policy is a [`Refusal`], and a refused call leaves its `out` as it was. No call allocates, and none keeps
+//! anything.
 //!
 //! ```
 //! use finnedscarf::{judge_policy, ALLOWED, FORBIDDEN};
@@ -13,6 +14,11 @@
 //! let words = [1, 15, 2, 0, 8, 1, 14, 3, 4, 1, 0, 1, 0, 1, 1];
 //! let breach = judge_policy(&words, &[ALLOWED, ALLOWED, FORBIDDEN])?.expect("delete and insert change the text");
 //! assert_eq!((breach.element, breach.privilege), (0, 2));
+//!
+//! // the same in format 2; the privileges are insert, delete, replace a child by another of its kind, and change the text
+//! let words = [2, 15, 2, 0, 8, 1, 14, 4, 4, 1, 0, 1, 0, 1, 1];
+//! let breach = judge_policy(&words, &[FORBIDDEN, FORBIDDEN, ALLOWED, FORBIDDEN])?.expect("replace changes the text");
+//! assert_eq!((breach.element, breach.privilege), (0, 3));
 //! # Ok::<(), finnedscarf::Refusal>(())
 //! ```
 //!
@@ -38,9 +44,10 @@ pub const FORBIDDEN: u8 = 2;
 /// Which of the three conditions a breach breaks.
 #[derive(Clone, Copy, Debug, PartialEq, Eq)]
 pub enum Condition {
-    /// 1: at a star whose insert and delete are both allowed, a privilege below its child is forbidden.
+    /// 1: at a star whose insert and delete are both allowed, a privilege below its child is forbidden. In format 2 also: at such a star
+    /// replace is forbidden, or at a star whose replace is allowed, a privilege below its child is.
     InsertDelete,
-    /// 2: at a choice, allowed replacements lead from `i` to `j`, and replacing `i` by `j` is forbidden.
+    /// 2: at a choice, allowed replacements lead from `i` to `j`, and replacing `i` by `j` is forbidden. In format 2 `j` may be `i`.
     Chain,
     /// 3: at a choice, allowed replacements lead from `i` back to `i`, and a privilege below the child at `i` is forbidden.
     Cycle,
@@ -57,7 +64,8 @@ pub struct Breach {
     pub i: usize,
     /// A position among that type's children; 0 for condition 1, and `i` for condition 3.
     pub j: usize,
-    /// The forbidden replacement for condition 2, else the lowest-numbered forbidden privilege below the child.
+    /// The forbidden replacement for condition 2, the star's replace for condition 1 if that is forbidden, else the lowest-numbered forbidden
+    /// privilege below the child.
     pub privilege: usize,
 }
 
@@ -67,7 +75,8 @@ impl fmt::Display for Breach {
         match condition {
             Condition::InsertDelete => write!(
                 f,
-                "condition 1 at type {element}: insert and delete are allowed, and privilege {privilege} below its child is forbidden"
+                "condition 1 at type {element}: insert and delete, or in format 2 replace, are allowed, and privilege {privilege}, which they \
+                 can imitate, is forbidden"
             ),
             Condition::Chain => write!(
                 f,
@@ -87,7 +96,7 @@ impl fmt::Display for Breach {
 ///
 /// ```
 /// let refusal = finnedscarf::check_table(&[]).unwrap_err();
-/// assert_eq!(refusal.to_string(), "refused with number 1: under 8 words lent, or word 0 is not 1");
+/// assert_eq!(refusal.to_string(), "refused with number 1: under 8 words lent, or word 0 is neither 1 nor 2");
 /// ```
 #[derive(Clone, Copy, Debug, PartialEq, Eq)]
 pub struct Refusal {
@@ -104,7 +113,7 @@ impl fmt::Display for Refusal {
         let Refusal { number, place, breach } = self;
         write!(f, "refused with number {number}: ")?;
         match number {
-            1 => write!(f, "under 8 words lent, or word 0 is not 1"),
+            1 => write!(f, "under 8 words lent, or word 0 is neither 1 nor 2"),
             2 => write!(f, "words 1 to 6 are not a table's, or the run lent isn't word 1 long"),
             3 => write!(f, "kind above 4 at type {place}"),
             4 => write!(f, "child count wrong for the kind at type {place}"),
@@ -145,6 +154,7 @@ pub fn check_table(words: &[u16]) -> Result<usize, Refusal> {
 /// Reads DTD text: writes its table into `out`, as many words as word 1 then says, and gives the table's number of privileges V. The rest of
 /// `out` is kept; [`MOST_WORDS`] are enough. Refused with 20 (not the grammar), 21 (ANY, mixed content with names, or a limit passed) and 22
 /// (a name declared before, or used and never declared), with the table's own numbers, of which there can be 4, 7, 19, 8 and 9, and with 12.
+/// The table is in format 1; the header says how to make it one of format 2.
 ///
 /// ```
 /// use finnedscarf::{read_dtd, MOST_WORDS};

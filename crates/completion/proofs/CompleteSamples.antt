@@ -5,7 +5,7 @@ use mathlib.Core.Path.{_≡_, refl}
 use mathlib.Core.List.{List, [], _∷_, map}
 use Rattle.table.specs.Sum.{sumBelow}
 use Rattle.table.specs.Rule.{ruleOf, ruleAt, childrenAt, countOf}
-use Rattle.table.specs.Privilege.{privilegesAt, firstPrivilege, privileges, replaceOf}
+use Rattle.table.specs.Privilege.{gapOf, privilegesAt, firstPrivilege, privileges, replaceOf}
 use Rattle.table.proofs.Tables.{Each, each-computed, marksOf, sample, figure}
 use Rattle.completion.proofs.Granting.{Outcome, unfit, none, least, Comes, outcomeBy, outcome-by}
 
@@ -39,7 +39,7 @@ abbrev again : Row → Row
 again r = record { words = r .words; marks = r .marks; outcome = outcomeBy (r .words) (r .marks) }
 
 computed : map again rows ≡ rows
-unfolding sumBelow ruleOf ruleAt childrenAt countOf privilegesAt firstPrivilege privileges replaceOf
+unfolding sumBelow ruleOf ruleAt childrenAt countOf gapOf privilegesAt firstPrivilege privileges replaceOf
 computed = refl
 
 pub samples : Each Right rows

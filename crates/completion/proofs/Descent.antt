@@ -38,11 +38,11 @@ below-last {ws} {x} {y} (down w c b) = go (below-last b)
 
 -- what a type opens stands at one of its positions
 opens-within : {ws : List ℕ} {S : ℕ → Type 0} {x i : ℕ} → Accepted ws → OpensAt ws S x i → i < length (childrenAt ws x)
-opens-within {x = x} a (star s f g e) = omega (arith, facts a .star-one x s, facts a .children-here x (s .type))
+opens-within {x = x} a (star s r e) = omega (arith, facts a .star-one x s, facts a .children-here x (s .type))
 opens-within {x = x} a (cycle s r) = omega (arith, reached-from r, facts a .children-here x (s .type))
 
 opens-type : {ws : List ℕ} {S : ℕ → Type 0} {x i : ℕ} → OpensAt ws S x i → x < types ws
-opens-type (star s f g e) = s .type
+opens-type (star s r e) = s .type
 opens-type (cycle s r) = s .type
 
 -- a type at place k of the order or later passes opening on to z

@@ -2,7 +2,7 @@
 -- if it is clean, and exactly if nothing granted is forbidden. The tests hold of every run of words and of marks. Assumes nothing.
 use Prim.Native.Nat.{ℕ, zero, suc, _<_}
 use mathlib.Core.Path.{_≡_, refl, ap}
-use mathlib.Core.Logic.{inl, inr, _↔_}
+use mathlib.Core.Logic.{_⊎_, inl, inr, _↔_}
 use mathlib.Core.Bool.{Bool, true, false}
 use mathlib.Core.List.{List, [], _∷_}
 use native.Mathlib.Omega.{arith}
@@ -10,20 +10,22 @@ use lib.Dec.{T}
 use lib.ListN.{length, getD}
 use Rattle.table.specs.Words.{types}
 use Rattle.table.specs.Rule.{countOf, childAt}
-use Rattle.table.specs.Privilege.{privileges, insertOf, deleteOf, replaceOf}
+use Rattle.table.specs.Privilege.{privileges, exchangeOf, replaceOf, Exchangeable, Replaceable, Edit, text, insert, delete, exchange, replace, Offers, privilegeOf}
 use Rattle.table.proofs.Test.{Test, isEqual, both, either, fails, implies, means, some, every}
-use Rattle.table.proofs.TableTests.{ofKind, replaceable, belongs}
+use Rattle.table.proofs.TableTests.{ofKind, exchangeable, replaceable, belongs}
 use Rattle.policy.specs.Marks.{Allowed, Forbidden, Policy}
+use Rattle.policy.specs.Reached.{Reached}
+use Rattle.policy.specs.Renewed.{Both}
 use Rattle.verdict.specs.Conditions.{Clean}
-use Rattle.verdict.specs.Forces.{Forces, chain}
+use Rattle.verdict.specs.Forces.{Forces}
 use Rattle.verdict.proofs.Forced.{forced-below, clean-forces, forces-clean}
 use Rattle.table.proofs.BelowTests.{below}
-use Rattle.verdict.proofs.PolicyTests.{allowed, forbidden, policy, reached}
+use Rattle.verdict.proofs.PolicyTests.{allowed, forbidden, policy, reached, bothAllowed, renewed}
 use Rattle.completion.specs.Completions.{Completes, LeastCompletion}
 use Rattle.completion.specs.Granted.{Granted}
 use Rattle.completion.specs.steps.Opens.{OpensAt, star, cycle, Opened}
 use Rattle.policy.specs.steps.Writing.{Decision, allow, forbid, decision}
-use Rattle.completion.proofs.Closed.{opened-forces, Chained, forces-cases}
+use Rattle.completion.proofs.Closed.{opened-forces, Drawn, Own, forces-cases, drawn-forces}
 use Rattle.completion.proofs.Least.{Completed, completes-clean, completes-grants, allowed-granted, completed-least}
 use Rattle.policy.proofs.Reaches.{reached-from}
 
@@ -52,18 +54,18 @@ decide-test {P} t = go (t .run) (t .out) (t .into)
 module _ (ws m : List ℕ) where
   -- what is cheapest to test stands first
   abbrev opensAt : (x i : ℕ) → Test (OpensAt ws (Allowed m) x i)
-  opensAt x i = means (λ h. elim h [ inl (e, (s, (a, d))) ↦ star s a d e | inr (s, r) ↦ cycle s r ])
-      (λ o. elim o [ star s a d e ↦ inl (e, (s, (a, d))) | cycle s r ↦ inr (s, r) ])
-      (either (both (isEqual i 0) (both (ofKind ws x 4) (both (allowed m (insertOf ws x)) (allowed m (deleteOf ws x)))))
+  opensAt x i = means (λ h. elim h [ inl (e, (s, r)) ↦ star s r e | inr (s, r) ↦ cycle s r ])
+      (λ o. elim o [ star s r e ↦ inl (e, (s, r)) | cycle s r ↦ inr (s, r) ])
+      (either (both (isEqual i 0) (both (ofKind ws x 4) (renewed ws m x)))
       (both (ofKind ws x 3) (reached ws m x i i)))
 
   pub opens-type : {x i : ℕ} → OpensAt ws (Allowed m) x i → x < types ws
-  opens-type (star s a d e) = s .type
+  opens-type (star s r e) = s .type
   opens-type (cycle s r) = s .type
 
   -- a star opens position 0, whatever its number of children
   pub opens-position : {x i : ℕ} → OpensAt ws (Allowed m) x i → i < suc (countOf ws x)
-  opens-position (star s a d e) = omega arith
+  opens-position (star s r e) = omega arith
   opens-position (cycle s r) = omega (arith, reached-from r)
 
   abbrev opened : (y : ℕ) → Test (Opened ws (Allowed m) y)
@@ -71,30 +73,43 @@ module _ (ws m : List ℕ) where
       (λ o. (o .at, opens-type (o .opens), (o .i, opens-position (o .opens), (o .opens, o .below))))
       (some (types ws) (λ x. some (suc (countOf ws x)) (λ i. both (opensAt x i) (below ws y (childAt ws x i)))))
 
-  abbrev chained : (p : ℕ) → Test (Chained ws (Allowed m) p)
-  chained p = means
-      (λ h. record {
-        at = h .0;
-        i = h .2 .1 .0;
-        j = h .2 .1 .2 .0;
-        choice = h .2 .0;
-        reached = h .2 .1 .2 .2 .1 .1;
-        can = h .2 .1 .2 .2 .0;
-        is = h .2 .1 .2 .2 .1 .0;
-      })
-      (λ c. (c .at, c .choice .type, (c .choice, (c .i, c .can .from, (c .j, c .can .to, (c .can, (c .is, c .reached)))))))
-      (some (types ws) (λ x. both (ofKind ws x 3) (some (countOf ws x) (λ i. some (countOf ws x) (λ j.
+  -- an edit that its own type forces
+  abbrev Exchanged : ℕ → Type 0
+  Exchanged p = (x : ℕ) × (x < types ws) × Exchangeable ws x × (p ≡ exchangeOf ws x) × Both ws (Allowed m) x
+
+  abbrev Replaced : ℕ → Type 0
+  Replaced p = (x : ℕ) × (x < types ws) × (i : ℕ) × (i < countOf ws x) × (j : ℕ) × (j < countOf ws x) × Replaceable ws x i j × (p ≡ replaceOf ws x i j) × Reached ws (Allowed m) x i j
+
+  pub own-into : {p : ℕ} (e : Edit) → Offers ws e → Drawn ws (Allowed m) e → p ≡ privilegeOf ws e → Exchanged p ⊎ Replaced p
+  own-into (text x) o d q = absurd d
+  own-into (insert x) o d q = absurd d
+  own-into (delete x) o d q = absurd d
+  own-into (exchange x) o d q = inl (x, o .star .type, o, q, d)
+  own-into (replace x i j) o d q = inr (x, o .choice .type, i, o .from, j, o .to, o, q, d)
+
+  abbrev own : (p : ℕ) → Test (Own ws (Allowed m) p)
+  own p = means
+      (λ h. elim h [
+        | inl (x, l, (o, (q, d))) ↦ record { edit = exchange x; offers = o; drawn = d; is = q }
+        | inr (x, l, (i, li, (j, lj, (o, (q, d))))) ↦ record { edit = replace x i j; offers = o; drawn = d; is = q }
+      ])
+      (λ c. elim (own-into (c .edit) (c .offers) (c .drawn) (c .is)) [
+        | inl (x, l, o, q, d) ↦ inl (x, l, (o, (q, d)))
+        | inr (x, l, i, li, j, lj, o, q, d) ↦ inr (x, l, (i, li, (j, lj, (o, (q, d)))))
+      ])
+      (either (some (types ws) (λ x. both (exchangeable ws x) (both (isEqual p (exchangeOf ws x)) (bothAllowed ws m x))))
+      (some (types ws) (λ x. some (countOf ws x) (λ i. some (countOf ws x) (λ j.
       both (replaceable ws x i j) (both (isEqual p (replaceOf ws x i j)) (reached ws m x i j)))))))
 
-  -- a reached replacement, or a privilege of an opened type
+  -- such an edit's, or a privilege of an opened type
   abbrev forces : (p : ℕ) → Test (Forces ws (Allowed m) p)
   forces p = means
       (λ h. elim h [
-        | inl c ↦ chain (c .at) (c .i) (c .j) (c .choice) (c .reached) (c .can) (c .is)
+        | inl c ↦ drawn-forces (c .edit) (c .offers) (c .drawn) (c .is)
         | inr (y, l, (b, o)) ↦ opened-forces o b
       ])
       (λ f. elim (forces-cases f) [ inl (y, b, o) ↦ inr (y, b .type, (b, o)) | inr c ↦ inl c ])
-      (either (chained p) (some (types ws) (λ y. both (belongs ws p y) (opened y))))
+      (either (own p) (some (types ws) (λ y. both (belongs ws p y) (opened y))))
 
   -- no forced privilege is forbidden
   abbrev pub clean : Test (Clean ws m)

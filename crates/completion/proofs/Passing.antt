@@ -5,28 +5,33 @@ use mathlib.Core.Logic.{_≢_, _⊎_, inl, inr}
 use mathlib.Core.Bool.{Bool, true, false, true≢false}
 use mathlib.Core.List.{List}
 use native.Mathlib.Omega.{arith}
-use lib.ListN.{length, getD}
+use native.Mathlib.Decide.{ℕ-discrete}
+use lib.ListN.{length, getD, set, length-set}
+use lib.Seq.{getD-set-same, getD-set-other}
 use Rattle.table.specs.Words.{types}
 use Rattle.table.specs.Rule.{ruleAt, kindIn, countOf, childrenAt, IsChoice, IsStar}
-use Rattle.table.specs.Privilege.{privilegesAt, firstPrivilege, privileges, Belongs, insertOf, deleteOf, replaceOf, Replaceable, Edit, text, insert, delete, replace, typeOf, Offers, privilegeOf}
-use Rattle.table.specs.steps.Numbering.{NumberedAs}
+use Rattle.table.specs.Privilege.{privilegesAt, firstPrivilege, privileges, Belongs, exchangeOf, replaceOf, Exchangeable, Replaceable, Edit, text, insert, delete, exchange, replace, typeOf, Offers, privilegeOf}
+use Rattle.table.specs.steps.Numbering.{NumberedAs, exchangeIn, ExchangeableIn}
 use Rattle.table.specs.declared.privilege.Numbering.{Numbering}
 use Rattle.table.specs.Check.{Accepted}
 use Rattle.table.proofs.Lists.{le-or-lt}
-use Rattle.table.proofs.Privileges.{first-next, first-within, belongs-one, edit-belongs, edit-of, insert-in, delete-in, in-replaceable, replaceable-in, replace-in}
+use Rattle.table.proofs.Privileges.{first-next, first-within, belongs-one, edit-belongs, edit-below, edit-of, exchange-in, exchangeable-in, in-exchangeable, in-replaceable, replaceable-in, replace-in}
 use Rattle.table.proofs.Facts.{facts}
 use Rattle.policy.specs.Marks.{Allowed}
 use Rattle.policy.specs.Reached.{Reached}
+use Rattle.policy.specs.Renewed.{Both, Renewed}
 use Rattle.policy.specs.steps.Squares.{marked, Square}
 use Rattle.verdict.specs.Forces.{chain}
+use Rattle.verdict.specs.Forces as forces
+use Rattle.policy.proofs.Renewals.{both-out, both-into}
 use Rattle.policy.proofs.SquareLaws.{marked-told, told-marked, room-of}
 use Rattle.completion.specs.Granted.{Granted}
 use Rattle.completion.specs.steps.Opens.{star, cycle, Opened, PassesOn}
-use Rattle.completion.specs.steps.Passes.{Visited, Both}
+use Rattle.completion.specs.steps.Passes.{Visited}
 use Rattle.policy.specs.steps.Squares.{Room}
-use Rattle.policy.specs.steps.Writing.{Decision, ChoiceWritten, RangeWritten}
-use Rattle.completion.specs.steps.Writing.{KidsOpened, TypeWritten}
-use Rattle.completion.proofs.Closed.{opened-forces, Chained, forces-cases, step-source}
+use Rattle.policy.specs.steps.Writing.{Decision, allow, ChoiceWritten, RangeWritten}
+use Rattle.completion.specs.steps.Writing.{KidsOpened, ExchangeWritten, drawn, kept, TypeWritten}
+use Rattle.completion.proofs.Closed.{opened-forces, Drawn, Own, forces-cases, step-source}
 use Rattle.completion.proofs.Openings.{kids-as}
 use Rattle.policy.proofs.Writings.{decision-as}
 
@@ -45,17 +50,37 @@ range-own {ws} {P} {Q} {x} {first} {n} {old} {new} l e f out into w = record {
     go p d (inl k) (inr m) = absurd (d (record { type = l; from = omega arith; until = omega arith }))
 
 module _ {ws : List ℕ} {S : ℕ → Type 0} {x : ℕ} (shut : ¬ Opened ws S x) where
-  -- at a type that is not opened, and no choice, what is granted is allowed
-  granted-plain : kindIn (ruleAt ws x) ≢ 3 → {p : ℕ} → Belongs ws p x → Granted ws S p → S p
-  granted-plain d b (inl a) = a
-  granted-plain d {p} b (inr f) = go (forces-cases f)
+  -- at a type that is not opened, and neither a star nor a choice, what is granted is allowed
+  granted-plain : kindIn (ruleAt ws x) ≢ 3 → kindIn (ruleAt ws x) ≢ 4 → {p : ℕ} → Belongs ws p x → Granted ws S p → S p
+  granted-plain d s b (inl a) = a
+  granted-plain d s {p} b (inr f) = go (forces-cases f)
     where
-      go : ((y : ℕ) × Belongs ws p y × Opened ws S y) ⊎ Chained ws S p → S p
+      drawn : (e : Edit) → Offers ws e → Drawn ws S e → typeOf e ≡ x → S p
+      drawn (text y) o f q = absurd f
+      drawn (insert y) o f q = absurd f
+      drawn (delete y) o f q = absurd f
+      drawn (exchange y) o f q = absurd (s (rw q at (o .star .kind-is)))
+      drawn (replace y i j) o f q = absurd (d (rw q at (o .choice .kind-is)))
+
+      go : ((y : ℕ) × Belongs ws p y × Opened ws S y) ⊎ Own ws S p → S p
       go (inl (y, c, o)) = let q : y ≡ x = belongs-one c b in absurd (shut (rw q at o))
-      go (inr c) =
-          let here : Belongs ws p (c .at) = rw (c .is) (edit-belongs ws (replace (c .at) (c .i) (c .j)) (c .can)) in
-          let q : c .at ≡ x = belongs-one here b in
-          absurd (d (rw q at (c .choice .kind-is)))
+      go (inr c) = drawn (c .edit) (c .offers) (c .drawn) (belongs-one (rw (c .is) (edit-belongs ws (c .edit) (c .offers))) b)
+
+  -- at a star that is not opened, what is allowed, and the exchange by insert and delete
+  granted-star : IsStar ws x → {p : ℕ} → Belongs ws p x → Granted ws S p → S p ⊎ ((p ≡ exchangeOf ws x) × Exchangeable ws x × Both ws S x)
+  granted-star s b (inl a) = inl a
+  granted-star s {p} b (inr f) = go (forces-cases f)
+    where
+      drawn : (e : Edit) → Offers ws e → Drawn ws S e → p ≡ privilegeOf ws e → typeOf e ≡ x → S p ⊎ ((p ≡ exchangeOf ws x) × Exchangeable ws x × Both ws S x)
+      drawn (text y) o f r q = absurd f
+      drawn (insert y) o f r q = absurd f
+      drawn (delete y) o f r q = absurd f
+      drawn (exchange y) o f r q = inr (rw q at r, rw q at o, rw q at f)
+      drawn (replace y i j) o f r q = let k = rw q at (o .choice .kind-is) in absurd (omega (arith, s .kind-is))
+
+      go : ((y : ℕ) × Belongs ws p y × Opened ws S y) ⊎ Own ws S p → S p ⊎ ((p ≡ exchangeOf ws x) × Exchangeable ws x × Both ws S x)
+      go (inl (y, c, o)) = let q : y ≡ x = belongs-one c b in absurd (shut (rw q at o))
+      go (inr c) = drawn (c .edit) (c .offers) (c .drawn) (c .is) (belongs-one (rw (c .is) (edit-belongs ws (c .edit) (c .offers))) b)
 
   -- at a choice that is not opened, what is reached
   granted-reached : {i j : ℕ} → Replaceable ws x i j → Granted ws S (replaceOf ws x i j) → Reached ws S x i j
@@ -64,32 +89,25 @@ module _ {ws : List ℕ} {S : ℕ → Type 0} {x : ℕ} (shut : ¬ Opened ws S x
   -- a type that is neither a star nor a choice passes nothing on
   pub plain-passes : kindIn (ruleAt ws x) ≢ 3 → kindIn (ruleAt ws x) ≢ 4 → {i : ℕ} → ¬ PassesOn ws S x i
   plain-passes d e (inl o) = shut o
-  plain-passes d e (inr (star s a f z)) = e (s .kind-is)
+  plain-passes d e (inr (star s r z)) = e (s .kind-is)
   plain-passes d e (inr (cycle s r)) = d (s .kind-is)
 
-  -- a star passes on to its child if it can be deleted and inserted anew
-  pub star-passes : IsStar ws x → {i : ℕ} → PassesOn ws S x i → S (insertOf ws x) × S (deleteOf ws x)
+  -- a star passes on to its child if it can be renewed
+  pub star-passes : IsStar ws x → {i : ℕ} → PassesOn ws S x i → Renewed ws S x
   star-passes k (inl o) = absurd (shut o)
-  star-passes k (inr (star s a f z)) = (a, f)
+  star-passes k (inr (star s r z)) = r
   star-passes k (inr (cycle s r)) = absurd (omega (arith, k .kind-is, s .kind-is))
 
   -- a choice passes on to the child at i if it can be replaced and replaced back
   choice-passes : IsChoice ws x → {i : ℕ} → PassesOn ws S x i → Reached ws S x i i
   choice-passes k (inl o) = absurd (shut o)
-  choice-passes k (inr (star s a f z)) = absurd (omega (arith, k .kind-is, s .kind-is))
+  choice-passes k (inr (star s r z)) = absurd (omega (arith, k .kind-is, s .kind-is))
   choice-passes k (inr (cycle s r)) = r
 
--- the insert and the delete by a star's numbering are its own
-pub both-star : {ws marks : List ℕ} {x : ℕ} {n : Numbering} → NumberedAs ws x n → Both marks n → Allowed marks (insertOf ws x) × Allowed marks (deleteOf ws x)
-both-star h b = (rw (insert-in h) at (b .insert), rw (delete-in h) at (b .delete))
-
-pub star-both : {ws marks : List ℕ} {x : ℕ} {n : Numbering} → NumberedAs ws x n → Allowed marks (insertOf ws x) × Allowed marks (deleteOf ws x) → Both marks n
-star-both h b = record { insert = rw (insert-in h) (b .0); delete = rw (delete-in h) (b .1) }
-
 -- the child of a star is opened
-pub star-kids : {ws : List ℕ} {S : ℕ → Type 0} {x : ℕ} {old new : List ℕ} → Accepted ws → IsStar ws x → S (insertOf ws x) × S (deleteOf ws x)
+pub star-kids : {ws : List ℕ} {S : ℕ → Type 0} {x : ℕ} {old new : List ℕ} → Accepted ws → IsStar ws x → Renewed ws S x
     → KidsOpened (λ i. Unit) (childrenAt ws x) old new → KidsOpened (PassesOn ws S x) (childrenAt ws x) old new
-star-kids {ws} {x = x} a s b = kids-as (λ k l u. inr (star s (b .0) (b .1) (first k l))) (λ k l p. tt)
+star-kids {ws} {x = x} a s b = kids-as (λ k l u. inr (star s b (first k l))) (λ k l p. tt)
   where
     first : (k : ℕ) → k < length (childrenAt ws x) → k ≡ 0
     first k l = omega (arith, facts a .children-here x (s .type), facts a .star-one x s)
@@ -100,6 +118,7 @@ choice-edit : {ws : List ℕ} {x : ℕ} → IsChoice ws x → (e : Edit) → Off
 choice-edit c (text y) o q = let k = rw q at (o .kind-is) in absurd (omega (arith, c .kind-is))
 choice-edit c (insert y) o q = let k = rw q at (o .kind-is) in absurd (omega (arith, c .kind-is))
 choice-edit c (delete y) o q = let k = rw q at (o .kind-is) in absurd (omega (arith, c .kind-is))
+choice-edit c (exchange y) o q = let k = rw q at (o .star .kind-is) in absurd (omega (arith, c .kind-is))
 choice-edit c (replace y i j) o q = (i, j, rw q at o, rw q)
 
 replacement-of : {ws : List ℕ} {p x : ℕ} → IsChoice ws x → Belongs ws p x → (i : ℕ) × (j : ℕ) × Replaceable ws x i j × (p ≡ replaceOf ws x i j)
@@ -157,16 +176,58 @@ module _ {ws marks kids opened out : List ℕ} {x first : ℕ} (v : Visited ws m
   pub visit-fits : {n : ℕ} → n ≡ privilegesAt ws x → first + n ≤ 4096
   visit-fits e = omega (arith, visit-end e, facts (v .policy .accepted) .privileges-few)
 
-  -- all of them are granted where it is opened, else those that are allowed, unless it is a choice
+  -- all of them are granted where it is opened, else those that are allowed, unless it is a star or a choice
   pub opened-own : {n : ℕ} {new : List ℕ} → Opened ws (Allowed marks) x → n ≡ privilegesAt ws x
       → RangeWritten (λ p. (_≡_ {A = Bool} true true) ⊎ Allowed marks p) first (first + n) out new → TypeWritten ws (Granted ws (Allowed marks)) x out new
   opened-own o e = range-own (v .type) (v .first-is) e (λ p b g. inr (opened-forces o b)) (λ p b g. inl refl)
 
-  pub plain-own : {n : ℕ} {new : List ℕ} → ¬ Opened ws (Allowed marks) x → kindIn (ruleAt ws x) ≢ 3 → n ≡ privilegesAt ws x
+  pub plain-own : {n : ℕ} {new : List ℕ} → ¬ Opened ws (Allowed marks) x → kindIn (ruleAt ws x) ≢ 3 → kindIn (ruleAt ws x) ≢ 4 → n ≡ privilegesAt ws x
       → RangeWritten (λ p. (false ≡ true) ⊎ Allowed marks p) first (first + n) out new → TypeWritten ws (Granted ws (Allowed marks)) x out new
-  plain-own shut d e = range-own (v .type) (v .first-is) e
+  plain-own shut d s e = range-own (v .type) (v .first-is) e
       (λ p b g. elim g [ inl z ↦ absurd (true≢false (sym z)) | inr a ↦ inl a ])
-      (λ p b g. inr (granted-plain shut d b g))
+      (λ p b g. inr (granted-plain shut d s b g))
+
+  -- at a star the exchange too where insert and delete are
+  pub star-own : {n : ℕ} {mid new : List ℕ} {k : Numbering} → ¬ Opened ws (Allowed marks) x → IsStar ws x → NumberedAs ws x k → n ≡ privilegesAt ws x
+      → RangeWritten (λ p. (false ≡ true) ⊎ Allowed marks p) first (first + n) out mid → ExchangeWritten marks k mid new
+      → TypeWritten ws (Granted ws (Allowed marks)) x out new
+  star-own {n} {mid} {new} {k} shut s h e w t = go t
+    where
+      kept-mark : (p : ℕ) → Belongs ws p x → (p ≡ exchangeOf ws x → Exchangeable ws x → ¬ Both ws (Allowed marks) x)
+          → Decision (Granted ws (Allowed marks) p) (getD mid p 0)
+      kept-mark p b d = decision-as {P = (false ≡ true) ⊎ Allowed marks p}
+          (λ g. elim g [ inl z ↦ absurd (true≢false (sym z)) | inr a ↦ inl a ])
+          (λ g. inr (elim (granted-star shut s b g) [ inl a ↦ a | inr (q, c, f) ↦ absurd (d q c f) ]))
+          (w .within p (omega (arith, v .first-is, b .from)) (omega (arith, v .first-is, e, b .until)))
+
+      old : TypeWritten ws (λ p. (false ≡ true) ⊎ Allowed marks p) x out mid
+      old = range-own (v .type) (v .first-is) e (λ p b g. g) (λ p b g. g) w
+
+      go : ExchangeWritten marks k mid new → TypeWritten ws (Granted ws (Allowed marks)) x out new
+      go (kept d q) = rw q (record {
+        size = w .size;
+        own = λ p b. kept-mark p b (λ z c f. d (exchangeable-in h c, both-into h f));
+        rest = old .rest;
+      })
+      go (drawn c b q) = rw q (record {
+        size = length-set mid (exchangeIn k) 1 ∙ w .size;
+        own = λ p z. mark p z (ℕ-discrete p (exchangeIn k));
+        rest = λ p z. getD-set-other mid (exchangeIn k) p 1 0 (λ y. z (rw (y, exchange-in h) (edit-belongs ws (exchange x) can))) ∙ old .rest p z;
+      })
+        where
+          can : Exchangeable ws x
+          can = in-exchangeable h s c
+
+          there : exchangeIn k < length mid
+          there = omega (arith, exchange-in h, edit-below ws (exchange x) can, v .room, w .size)
+
+          mark : (p : ℕ) → Belongs ws p x → Dec (p ≡ exchangeIn k) → Decision (Granted ws (Allowed marks) p) (getD (set mid (exchangeIn k) 1) p 0)
+          mark p z (yes y) = allow (inr (forces.exchange x can (both-out h b) (y ∙ exchange-in h))) (rw y (getD-set-same mid (exchangeIn k) 1 0 there))
+          mark p z (no y) = rw (getD-set-other mid (exchangeIn k) p 1 0 y) (kept-mark p z (λ r g f. y (r ∙ sym (exchange-in h))))
+
+  -- room for the exchange of a star
+  pub exchange-room : {k : Numbering} (new : List ℕ) → IsStar ws x → NumberedAs ws x k → length new ≡ length out → ExchangeableIn k → exchangeIn k < length new
+  exchange-room new s h e c = omega (arith, exchange-in h, edit-below ws (exchange x) (in-exchangeable h s c), v .room)
 
   -- room for the replacements of a choice
   pub choice-room : {n : Numbering} → IsChoice ws x → NumberedAs ws x n → Room n out

@@ -1,40 +1,26 @@
 // One pass from parents to children: each type opens what it passes on, and its marks are written. Contracts cite specs/steps/Passes.
 ghost use Prim.Native.Nat.{_≤_};
 ghost use lib.ListN.{length};
-ghost use Rattle.table.specs.steps.Found.{Tells};
 ghost use Rattle.table.specs.Rule.{IsChoice, IsStar};
 ghost use Rattle.table.specs.Privilege.{privileges};
 ghost use Rattle.table.specs.steps.Order.{BottomUp};
 ghost use Rattle.policy.specs.Marks.{Allowed, Policy};
 ghost use Rattle.completion.specs.steps.Opens.{Opened};
-ghost use Rattle.completion.specs.steps.Passes.{Visited, Both, Done, Filled};
+ghost use Rattle.completion.specs.steps.Passes.{Visited, Done, Filled};
 use super::open::open_all;
 use super::open::open_cycles;
+use super::write::write_exchange;
 use super::write::write_range;
-use policy::marks::mark_at;
 use policy::reach::reached;
+use policy::renew::is_renewed;
 use policy::write::write_choice;
-use table::privilege::Numbering;
-use table::privilege::deletion;
 use table::privilege::first_privileges;
-use table::privilege::insertion;
 use table::privilege::numbers_at;
 use table::privilege::privileges_at;
 use table::rule::Rule;
 use table::rule::children;
 use table::rule::rule_at;
 use table::words::types;
-
-// Are the insert and the delete both allowed?
-fn both_allowed(marks: &[u8], n: Numbering) -> bool
-    requires { ⌜ n .first ≤ 4096 ⌝ }
-    ensures { λ r. ⌜ Tells (Both (now (marks .entry)) n) r ⌝ }
-{
-    if mark_at(marks, insertion(n)) != 1 {
-        return false;
-    }
-    mark_at(marks, deletion(n)) == 1
-}
 
 // An opened type: its children are opened, and all its privileges allowed.
 fn complete_opened(
@@ -53,7 +39,7 @@ fn complete_opened(
     write_range(out, marks, true, first, first + privileges_at(words, x));
 }
 
-// A star that is not opened: it opens its child where it can be deleted and inserted anew.
+// A star that is not opened: it opens its child where it can be renewed, and allows the exchange where insert and delete are allowed.
 fn complete_star(
     words: &[u16],
     marks: &[u8],
@@ -66,10 +52,12 @@ fn complete_star(
     requires { ⌜ Visited (now words) (now marks) x first (now kids) (now opened) (now out) × (Opened (now words) (Allowed (now marks)) x → ⊥) × IsStar (now words) x ⌝ }
     ensures { λ _. ⌜ Done (now (words .entry)) (now (marks .entry)) x (now (opened .entry)) (now (out .entry)) (now (opened .exit)) (now (out .exit)) ⌝ }
 {
-    if both_allowed(marks, numbers_at(words, x, first)) {
+    let n = numbers_at(words, x, first);
+    if is_renewed(marks, n) {
         open_all(opened, kids);
     }
     write_range(out, marks, false, first, first + privileges_at(words, x));
+    write_exchange(out, marks, n);
 }
 
 // A choice that is not opened: it opens what can be replaced and replaced back, and allows what is reached.
@@ -86,7 +74,7 @@ fn complete_choice(
     ensures { λ _. ⌜ Done (now (words .entry)) (now (marks .entry)) x (now (opened .entry)) (now (out .entry)) (now (opened .exit)) (now (out .exit)) ⌝ }
 {
     let n = numbers_at(words, x, first);
-    let square = reached(words, marks, x, kids, n);
+    let square = reached(words, marks, x, n);
     open_cycles(opened, kids, &square);
     write_choice(out, &square, n);
 }

@@ -1,13 +1,31 @@
-// Writing the decided marks of a type by their own. Contracts cite specs/steps/Writing.
+// Writing the decided marks of a type by their own, and the exchange of a star. Contracts cite specs/steps/Writing.
 ghost use mathlib.Core.Path.{_≡_};
 ghost use mathlib.Core.Bool.{true};
 ghost use mathlib.Core.Logic.{_⊎_};
-ghost use Prim.Native.Nat.{_≤_};
+ghost use Prim.Native.Nat.{_≤_, _<_};
 ghost use lib.ListN.{length};
+ghost use Rattle.table.specs.steps.Numbering.{exchangeIn, ExchangeableIn};
 ghost use Rattle.policy.specs.Marks.{Allowed};
 ghost use Rattle.policy.specs.steps.Writing.{RangeWritten};
+ghost use Rattle.completion.specs.steps.Writing.{ExchangeWritten};
 use policy::marks::mark_at;
+use policy::renew::both_allowed;
 use policy::write::decided;
+use table::privilege::Numbering;
+use table::privilege::exchange;
+use table::privilege::is_exchangeable;
+
+// Allows the exchange of a star, where there is one and insert and delete are both allowed.
+pub fn write_exchange(out: &mut [u8], marks: &[u8], n: Numbering)
+    requires { ⌜ (n .first ≤ 4096) × (ExchangeableIn n → exchangeIn n < length (now out)) ⌝ }
+    ensures { λ _. ⌜ ExchangeWritten (now (marks .entry)) n (now (out .entry)) (now (out .exit)) ⌝ }
+{
+    if is_exchangeable(n) {
+        if both_allowed(marks, n) {
+            out[exchange(n)] = 1;
+        }
+    }
+}
 
 // Decides the marks from one number up to another: all allowed, or those that are.
 pub fn write_range(out: &mut [u8], marks: &[u8], all: bool, from: usize, until: usize)

@@ -10,9 +10,9 @@ use native.Mathlib.Numerals.{add-one}
 use lib.ListN.{getD, set}
 use lib.Seq.{getD-set-other, set-set, set-getD}
 use Rattle.table.specs.Sum.{sumBelow}
-use Rattle.table.specs.Words.{types, kindAt, countAt, firstAt}
+use Rattle.table.specs.Words.{formatOf, types, kindAt, countAt, firstAt}
 use Rattle.table.specs.Rule.{ruleOf, ruleAt}
-use Rattle.table.specs.Privilege.{privilegesOf, privilegesAt, firstPrivilege, privileges}
+use Rattle.table.specs.Privilege.{gapOf, privilegesOf, privilegesAt, firstPrivilege, privileges}
 use Rattle.table.proofs.Sums.{sum-same}
 use Rattle.grammar.specs.Tree.{Declaration}
 use Rattle.model.specs.Tables.{tableOf}
@@ -22,12 +22,12 @@ use Rattle.write.specs.steps.Code.{untotalled}
 pairs-few : (n : ℕ) → n ≤ 16 → n * (n - 1) ≤ 240
 pairs-few n h = mul-le-mul {n₁ = n} {m₁ = n - 1} {n₂ = 16} {m₂ = 15} h (omega arith)
 
--- a type with at most 16 children has at most 240 privileges
-pub privileges-few : (ws : List ℕ) (t : ℕ) → countAt ws t ≤ 16 → privilegesAt ws t ≤ 240
-unfolding privilegesAt ruleAt ruleOf
-privileges-few ws t h = go (kindAt ws t)
+-- in format 1 a type with at most 16 children has at most 240 privileges
+pub privileges-few : (ws : List ℕ) (t : ℕ) → formatOf ws ≡ 1 → countAt ws t ≤ 16 → privilegesAt ws t ≤ 240
+unfolding gapOf privilegesAt ruleAt ruleOf
+privileges-few ws t one h = rw one (go (kindAt ws t))
   where
-    go : (k : ℕ) → privilegesOf (ruleOf k (firstAt ws t) (countAt ws t)) ≤ 240
+    go : (k : ℕ) → privilegesOf 1 (ruleOf k (firstAt ws t) (countAt ws t)) ≤ 240
     go zero = omega arith
     go (suc zero) = omega arith
     go (suc (suc zero)) = omega arith
@@ -46,12 +46,15 @@ other-words ws v i h = getD-set-other ws 7 i v 0 h
 pub same-types : (ws : List ℕ) (v : ℕ) → types (set ws 7 v) ≡ types ws
 same-types ws v = other-words ws v 2 (λ e. omega arith)
 
+pub same-format : (ws : List ℕ) (v : ℕ) → formatOf (set ws 7 v) ≡ formatOf ws
+same-format ws v = other-words ws v 0 (λ e. omega arith)
+
 pub same-count : (ws : List ℕ) (v t : ℕ) → countAt (set ws 7 v) t ≡ countAt ws t
 same-count ws v t = other-words ws v (8 + 3 * t + 1) (λ e. omega arith)
 
 same-at : (ws : List ℕ) (v t : ℕ) → privilegesAt (set ws 7 v) t ≡ privilegesAt ws t
-unfolding privilegesAt ruleAt
-same-at ws v t = rw (other-words ws v (8 + 3 * t + 0) (λ e. omega arith), other-words ws v (8 + 3 * t + 2) (λ e. omega arith), same-count ws v t)
+unfolding gapOf privilegesAt ruleAt
+same-at ws v t = rw (same-format ws v, other-words ws v (8 + 3 * t + 0) (λ e. omega arith), other-words ws v (8 + 3 * t + 2) (λ e. omega arith), same-count ws v t)
 
 same-privileges : (ws : List ℕ) (v : ℕ) → privileges (set ws 7 v) ≡ privileges ws
 unfolding privileges firstPrivilege
@@ -64,7 +67,7 @@ same-privileges ws v = ap (sumBelow (privilegesAt (set ws 7 v))) (same-types ws 
 pub totalled : (ds : List Declaration) (ws : List ℕ) (v : ℕ) → ws ≡ untotalled ds → v ≡ privileges ws → set ws 7 v ≡ tableOf 1 ds
 totalled ds ws v e h =
     let t = tableOf 1 ds in
-    let z : v ≡ getD t 7 0 = h ∙ ap privileges e ∙ same-privileges t 0 ∙ sym (privileges-stated ds) in
+    let z : v ≡ getD t 7 0 = h ∙ ap privileges e ∙ same-privileges t 0 ∙ sym (privileges-stated 1 ds) in
     ap (λ (l : List ℕ). set l 7 v) e ∙ set-set t 7 0 v ∙ ap (λ (n : ℕ). set t 7 n) z ∙ set-getD t 7 0
 
 pub sum-none : (f : ℕ → ℕ) → 0 ≡ sumBelow f 0

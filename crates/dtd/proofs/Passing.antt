@@ -18,9 +18,9 @@ use Rattle.grammar.proofs.OneTree.{one-tree}
 use Rattle.grammar.proofs.Stopping.{le-or-lt, text-no-stop, over-within}
 use Rattle.model.specs.Tables.{rulesOf, kidsOfAll, numberOf, tableOf}
 use Rattle.model.proofs.Counts.{declared-few}
-use Rattle.model.proofs.Shape.{table-length}
-use Rattle.table.specs.Words.{types as types-of}
-use Rattle.dtd.proofs.Finishing.{same-types}
+use Rattle.model.proofs.Shape.{table-length, format-is}
+use Rattle.table.specs.Words.{formatOf, types as types-of}
+use Rattle.dtd.proofs.Finishing.{same-format, same-types}
 use Rattle.dtd.proofs.Lasting.{types-are}
 use Rattle.scan.specs.steps.Scanned as scanned
 use Rattle.scan.specs.steps.Scanned.{Stopped, Passed}
@@ -183,11 +183,12 @@ module _ {words front : List ℕ} (n : ℕ) {ds : List Declaration} {code-words 
   pub front-is : front ≡ untotalled ds
   front-is = f ∙ ap (λ (k : ℕ). take k words) size-is ∙ x .table ds (w .coded) (w .all) (w .counted) (omega (arith, w .counted .types-are, w .small .types-few)) (omega (arith, w .counted .kids-are, w .small .kids-few))
 
-  pub front-fits : (8 ≤ length front) × (8 + 3 * types-of front ≤ length front) × (types-of front ≤ 256)
+  pub front-fits : (formatOf front ≡ 1) × (8 ≤ length front) × (8 + 3 * types-of front ≤ length front) × (types-of front ≤ 256)
   front-fits =
       let s = ap {A = List ℕ} length front-is ∙ length-set (tableOf 1 ds) 7 0 in
       let t = ap {A = List ℕ} types-of front-is ∙ same-types (tableOf 1 ds) 0 ∙ types-are ds in
-      (omega (arith, s, table-length 1 ds), omega (arith, s, t, table-length 1 ds), omega (arith, t, w .small .types-few))
+      let one : formatOf front ≡ 1 = ap {A = List ℕ} formatOf front-is ∙ same-format (tableOf 1 ds) 0 ∙ format-is 1 ds in
+      (one, omega (arith, s, table-length 1 ds), omega (arith, s, t, table-length 1 ds), omega (arith, t, w .small .types-few))
 
 pub words-fit : {n types kids : ℕ} {words : List ℕ} {code-words : List ℕ} {declared : ℕ} → types ≤ 256 → kids ≤ 1024 → Written code-words words declared types kids → n ≡ 8 + 3 * types + kids → n ≤ length words
 words-fit a b x e = omega (arith, x .sized)

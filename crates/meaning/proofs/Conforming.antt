@@ -5,7 +5,7 @@ use mathlib.Core.Path.{_≡_, refl}
 use mathlib.Core.List.{List, [], _∷_}
 use native.Mathlib.Omega.{arith}
 use lib.ListN.{length, getD, replicate, length-replicate, getD-replicate}
-use Rattle.table.specs.Rule.{childAt, IsText, IsChoice, IsStar, Child}
+use Rattle.table.specs.Rule.{childrenAt, childAt, countOf, OfKind, Child}
 use Rattle.table.specs.Below.{Below, here, down}
 use Rattle.table.specs.Privilege.{Edit, typeOf, Offers, privilegeOf}
 use Rattle.table.specs.Check.{Accepted}
@@ -13,8 +13,8 @@ use Rattle.table.proofs.Belows.{below-trans}
 use Rattle.table.proofs.Facts.{facts, child-at}
 use Rattle.table.proofs.Privileges.{edit-belongs}
 use Rattle.verdict.specs.Below.{PrivilegeBelow}
-use Rattle.meaning.specs.Trees.{Forest, bare, tree, Fits, as-empty, as-text, as-sequence, as-choice, as-star, Conforms, no-tree, conforming, ConformsAt, Put, put-first, put-later}
-use Rattle.meaning.specs.Edits.{AtNode, set-text, put-in, put-out, exchange, Makes, at, below, beside, Leads, stay, go}
+use Rattle.meaning.specs.Trees.{Forest, bare, tree, Fits, as-empty, as-text, as-sequence, as-choice, as-star, Conforms, no-tree, conforming, ConformsAt, Put, put-first, put-later, Anew, anew-first, anew-later}
+use Rattle.meaning.specs.Edits.{AtNode, set-text, put-in, put-out, put-anew, put-for, Makes, at, below, beside, Leads, stay, go}
 use Rattle.meaning.proofs.Putting.{Some, put-some}
 
 pub none-conforms : {ws : List ℕ} {f : Forest} → Conforms ws [] f → ¬ Some f
@@ -32,27 +32,26 @@ rest-conforms zero q v = absurd (none-conforms v (put-some q))
 rest-conforms (suc n) put-first (conforming t v f) = (n, f)
 rest-conforms (suc n) (put-later q) (conforming t v f) = let h = rest-conforms n q f in (suc (h .0), conforming t v (h .1))
 
-module _ {ws : List ℕ} {x : ℕ} {s xs : List ℕ} where
-  text-fits : Fits ws x s xs → IsText ws x → xs ≡ []
-  text-fits (as-empty o e z) i = z
-  text-fits (as-text o z) i = z
-  text-fits (as-sequence o e z) i = absurd (omega (arith, o .kind-is, i .kind-is))
-  text-fits (as-choice n o l e z) i = absurd (omega (arith, o .kind-is, i .kind-is))
-  text-fits (as-star n o e z) i = absurd (omega (arith, o .kind-is, i .kind-is))
+-- one in another's place
+anew-conforms : {ws : List ℕ} {c : ℕ} {r xs : List ℕ} {m k l : Forest} → Anew c r m k l → ConformsAt ws c (tree c r m bare) → Conforms ws xs k → Conforms ws xs l
+anew-conforms anew-first (conforming t v no-tree) (conforming u w f) = conforming t v f
+anew-conforms (anew-later q) v (conforming t k f) = conforming t k (anew-conforms q v f)
 
-  star-fits : Fits ws x s xs → IsStar ws x → (s ≡ []) × ((n : ℕ) × (xs ≡ replicate n (childAt ws x 0)))
-  star-fits (as-empty o e z) i = absurd (omega (arith, o .kind-is, i .kind-is))
-  star-fits (as-text o z) i = absurd (omega (arith, o .kind-is, i .kind-is))
-  star-fits (as-sequence o e z) i = absurd (omega (arith, o .kind-is, i .kind-is))
-  star-fits (as-choice n o l e z) i = absurd (omega (arith, o .kind-is, i .kind-is))
-  star-fits (as-star n o e z) i = (e, (n, z))
+-- what fits a type of a known kind
+abbrev pub FitsAs : List ℕ → ℕ → List ℕ → List ℕ → ℕ → Type 0
+FitsAs ws x s xs zero = (s ≡ []) × (xs ≡ [])
+FitsAs ws x s xs (suc zero) = xs ≡ []
+FitsAs ws x s xs (suc (suc zero)) = (s ≡ []) × (xs ≡ childrenAt ws x)
+FitsAs ws x s xs (suc (suc (suc zero))) = (s ≡ []) × (i : ℕ) × (i < countOf ws x) × (xs ≡ childAt ws x i ∷ [])
+FitsAs ws x s xs (suc (suc (suc (suc zero)))) = (s ≡ []) × (n : ℕ) × (xs ≡ replicate n (childAt ws x 0))
+FitsAs ws x s xs (suc (suc (suc (suc (suc kind))))) = ⊥
 
-  choice-fits : Fits ws x s xs → IsChoice ws x → s ≡ []
-  choice-fits (as-empty o e z) i = e
-  choice-fits (as-text o z) i = absurd (omega (arith, o .kind-is, i .kind-is))
-  choice-fits (as-sequence o e z) i = e
-  choice-fits (as-choice n o l e z) i = e
-  choice-fits (as-star n o e z) i = e
+pub fits-as : {ws : List ℕ} {x kind : ℕ} {s xs : List ℕ} → Fits ws x s xs → OfKind ws x kind → FitsAs ws x s xs kind
+fits-as {kind = kind} (as-empty o e z) i = let is : kind ≡ 0 = omega (arith, o .kind-is, i .kind-is) in rw is (e, z)
+fits-as {kind = kind} (as-text o z) i = let is : kind ≡ 1 = omega (arith, o .kind-is, i .kind-is) in rw is z
+fits-as {kind = kind} (as-sequence o e z) i = let is : kind ≡ 2 = omega (arith, o .kind-is, i .kind-is) in rw is (e, z)
+fits-as {kind = kind} (as-choice j o l e z) i = let is : kind ≡ 3 = omega (arith, o .kind-is, i .kind-is) in rw is (e, j, l, z)
+fits-as {kind = kind} (as-star n o e z) i = let is : kind ≡ 4 = omega (arith, o .kind-is, i .kind-is) in rw is (e, n, z)
 
 -- an edit at a node
 record Fitting (ws : List ℕ) (x : ℕ) (r : List ℕ) (l : Forest) : Type 0 where
@@ -61,18 +60,18 @@ record Fitting (ws : List ℕ) (x : ℕ) (r : List ℕ) (l : Forest) : Type 0 wh
   kids : Conforms ws types l
 
 at-conforms : {ws : List ℕ} {x : ℕ} {e : Edit} {s r xs : List ℕ} {k l : Forest} → AtNode ws x e s k r l → Fits ws x s xs → Conforms ws xs k → Fitting ws x r l
-at-conforms {xs = xs} (set-text i) t v = record { types = xs; fits = as-text i (text-fits t i); kids = v }
+at-conforms {xs = xs} (set-text i) t v = record { types = xs; fits = as-text i (fits-as t i); kids = v }
 at-conforms {ws} {x} (put-in i y w q) t v =
-    let h = star-fits t i in
-    let n = h .1 .0 in
-    record { types = replicate (suc n) (childAt ws x 0); fits = as-star (suc n) i (h .0) refl; kids = put-conforms n (rw y at q) (rw y at w) (rw (h .1 .1) at v) }
+    let h = fits-as t i in
+    let n = h .1 in
+    record { types = replicate (suc n) (childAt ws x 0); fits = as-star (suc n) i (h .0) refl; kids = put-conforms n (rw y at q) (rw y at w) (rw (h .2) at v) }
 at-conforms {ws} {x} (put-out i q) t v =
-    let h = star-fits t i in
-    let n = h .1 .0 in
-    let k = rest-conforms n q (rw (h .1 .1) at v) in
+    let h = fits-as t i in
+    let k = rest-conforms (h .1) q (rw (h .2) at v) in
     record { types = replicate (k .0) (childAt ws x 0); fits = as-star (k .0) i (h .0) refl; kids = k .1 }
-at-conforms (exchange {j = j} {z = z} o y g w) t v =
-    record { types = z ∷ []; fits = as-choice j (o .choice) (o .to) (choice-fits t (o .choice)) (rw g); kids = w }
+at-conforms {xs = xs} (put-anew c y w q) t v = record { types = xs; fits = t; kids = anew-conforms q w v }
+at-conforms (put-for {j = j} {z = z} o y g w) t v =
+    record { types = z ∷ []; fits = as-choice j (o .choice) (o .to) (fits-as t (o .choice) .0) (rw g); kids = w }
 
 -- "we assume that the evaluation of an update operation on a tree that conforms to a DTD D results in a tree that conforms to D" (document 000,
 -- section 3.2): nothing is to be assumed
@@ -90,7 +89,8 @@ pub makes-offers : {ws : List ℕ} {e : Edit} {f g : Forest} → Makes ws e f g 
 makes-offers (at (set-text i)) = i
 makes-offers (at (put-in i y v q)) = i
 makes-offers (at (put-out i q)) = i
-makes-offers (at (exchange o y z v)) = o
+makes-offers (at (put-anew c y v q)) = c
+makes-offers (at (put-for o y z v)) = o
 makes-offers (below m) = makes-offers m
 makes-offers (beside m) = makes-offers m
 
@@ -99,7 +99,8 @@ at-type : {ws : List ℕ} {x : ℕ} {e : Edit} {s r : List ℕ} {k l : Forest} �
 at-type (set-text i) = refl
 at-type (put-in i y v q) = refl
 at-type (put-out i q) = refl
-at-type (exchange o y z v) = refl
+at-type (put-anew c y v q) = refl
+at-type (put-for o y z v) = refl
 
 -- the types are all below z
 abbrev pub AllBelow : List ℕ → List ℕ → ℕ → Type 0

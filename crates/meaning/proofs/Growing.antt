@@ -14,8 +14,9 @@ use Rattle.table.specs.declared.rule.Rule.{Rule}
 use Rattle.table.specs.declared.rule.Rule.the-variants.{Empty, Text, Sequence, Choice, Star}
 use Rattle.table.proofs.Climbs.{from-children}
 use Rattle.table.proofs.Facts.{facts, child-at}
-use Rattle.meaning.specs.Trees.{Forest, bare, tree, Fits, as-empty, as-text, as-sequence, as-choice, as-star, Conforms, no-tree, conforming, ConformsAt}
+use Rattle.meaning.specs.Trees.{Forest, bare, tree, Fits, as-empty, as-text, as-sequence, as-choice, as-star, Conforms, no-tree, conforming, ConformsAt, Same}
 use Rattle.meaning.specs.Edits.{Makes, at, below, beside}
+use Rattle.meaning.proofs.Orders.{same-lone, same-rest, same-first}
 
 -- a forest of the types xs
 pub record Grown (ws xs : List ℕ) : Type 0 where
@@ -29,7 +30,7 @@ Plant ws x = Grown ws (x ∷ [])
 in-front : {ws : List ℕ} {x : ℕ} {xs : List ℕ} {t : Forest} → ConformsAt ws x t → Grown ws xs → Grown ws (x ∷ xs)
 in-front (conforming t v no-tree) g = record { forest = _; conforms = conforming t v (g .conforms) }
 
-row : {ws : List ℕ} (xs : List ℕ) → ((i : ℕ) → i < length xs → Plant ws (getD xs i 0)) → Grown ws xs
+pub row : {ws : List ℕ} (xs : List ℕ) → ((i : ℕ) → i < length xs → Plant ws (getD xs i 0)) → Grown ws xs
 row [] h = record { forest = bare; conforms = no-tree }
 row (x ∷ xs) h = in-front (h 0 (omega arith) .conforms) (row xs (λ i l. h (suc i) (omega arith)))
 
@@ -37,7 +38,7 @@ planted : {ws : List ℕ} {x : ℕ} {xs : List ℕ} → Fits ws x [] xs → Grow
 planted {x = x} t g = record { forest = tree x [] (g .forest) bare; conforms = conforming t (g .conforms) no-tree }
 
 module _ {ws : List ℕ} (ok : Accepted ws) where
-  child-of : {x : ℕ} → x < types ws → (i : ℕ) → i < length (childrenAt ws x) → Child ws x (childAt ws x i)
+  pub child-of : {x : ℕ} → x < types ws → (i : ℕ) → i < length (childrenAt ws x) → Child ws x (childAt ws x i)
   child-of {x} l i h = child-at ok x i l (omega (arith, facts ok .children-here x l))
 
   grow : (x : ℕ) → x < types ws → ((y : ℕ) → Child ws x y → Plant ws y) → Plant ws x
@@ -56,26 +57,16 @@ module _ {ws : List ℕ} (ok : Accepted ws) where
   pub plant : (x : ℕ) → x < types ws → Plant ws x
   plant x l = from-children (facts ok .off-cycle) grow x l
 
+  pub plant-child : {x i : ℕ} → x < types ws → i < countOf ws x → Plant ws (childAt ws x i)
+  plant-child {x} {i} l h = plant (childAt ws x i) (facts ok .child-inside x i l h)
+
 -- a forest of the types ys with a place for a tree of type x: what is put there conforms, what an edit makes of it the edit makes of the whole, and
--- what differs there differs
+-- trees that are the same there are the same
 pub record Place (ws : List ℕ) (x : ℕ) (ys : List ℕ) : Type 0 where
   pub plug : Forest → Forest
   pub conforms : (t : Forest) → ConformsAt ws x t → Conforms ws ys (plug t)
   pub makes : (e : Edit) (t u : Forest) → Makes ws e t u → Makes ws e (plug t) (plug u)
-  pub tells : (t u : Forest) → ConformsAt ws x t → ConformsAt ws x u → plug t ≡ plug u → t ≡ u
-
--- parts of a forest
-abbrev firstOf : Forest → Forest
-firstOf bare = bare
-firstOf (tree x s k f) = tree x s k bare
-
-abbrev pub kidsOf : Forest → Forest
-kidsOf bare = bare
-kidsOf (tree x s k f) = k
-
-abbrev pub restOf : Forest → Forest
-restOf bare = bare
-restOf (tree x s k f) = f
+  pub tells : (t u : Forest) → ConformsAt ws x t → ConformsAt ws x u → Same (plug t) (plug u) → Same t u
 
 -- one forest and then another
 abbrev join : Forest → Forest → Forest
@@ -90,20 +81,20 @@ join-makes h (beside m) = beside (join-makes h m)
 join-conforms : {ws : List ℕ} {x : ℕ} {xs : List ℕ} {t g : Forest} → ConformsAt ws x t → Conforms ws xs g → Conforms ws (x ∷ xs) (join t g)
 join-conforms (conforming t v no-tree) w = conforming t v w
 
-join-first : {ws : List ℕ} {x : ℕ} {t : Forest} (g : Forest) → ConformsAt ws x t → firstOf (join t g) ≡ t
-join-first g (conforming t v no-tree) = refl
+join-same : {ws : List ℕ} {x : ℕ} {t u : Forest} (g : Forest) → ConformsAt ws x t → ConformsAt ws x u → Same (join t g) (join u g) → Same t u
+join-same g (conforming t v no-tree) (conforming u w no-tree) a = same-first g a
 
 module _ {ws : List ℕ} {x : ℕ} where
   whole : Place ws x (x ∷ [])
-  whole = record { plug = λ t. t; conforms = λ t c. c; makes = λ e t u m. m; tells = λ t u c d q. q }
+  whole = record { plug = λ t. t; conforms = λ t c. c; makes = λ e t u m. m; tells = λ t u c d a. a }
 
   -- in front of a row
-  front : {ys : List ℕ} → Grown ws ys → Place ws x (x ∷ ys)
+  pub front : {ys : List ℕ} → Grown ws ys → Place ws x (x ∷ ys)
   front g = record {
     plug = λ t. join t (g .forest);
     conforms = λ t c. join-conforms c (g .conforms);
     makes = λ e t u m. join-makes (g .forest) m;
-    tells = λ t u c d q. rw (← join-first (g .forest) c, ← join-first (g .forest) d) (ap firstOf q);
+    tells = λ t u c d a. join-same (g .forest) c d a;
   }
 
   -- behind a tree
@@ -112,7 +103,7 @@ module _ {ws : List ℕ} {x : ℕ} where
     plug = λ u. tree y s k (p .plug u);
     conforms = λ u c. conforming t v (p .conforms u c);
     makes = λ e t u m. beside (p .makes e t u m);
-    tells = λ t u c d q. p .tells t u c d (ap restOf q);
+    tells = λ t u c d a. p .tells t u c d (same-rest a);
   }
 
   -- below a root
@@ -121,7 +112,7 @@ module _ {ws : List ℕ} {x : ℕ} where
     plug = λ t. tree y [] (p .plug t) bare;
     conforms = λ t c. conforming f (p .conforms t c) no-tree;
     makes = λ e t u m. below (p .makes e t u m);
-    tells = λ t u c d q. p .tells t u c d (ap kidsOf q);
+    tells = λ t u c d a. p .tells t u c d (same-lone a .2);
   }
 
   -- a place in a tree that has a place
@@ -130,7 +121,7 @@ module _ {ws : List ℕ} {x : ℕ} where
     plug = λ t. q .plug (p .plug t);
     conforms = λ t c. q .conforms (p .plug t) (p .conforms t c);
     makes = λ e t u m. q .makes e (p .plug t) (p .plug u) (p .makes e t u m);
-    tells = λ t u c d r. p .tells t u c d (q .tells (p .plug t) (p .plug u) (p .conforms t c) (p .conforms u d) r);
+    tells = λ t u c d a. p .tells t u c d (q .tells (p .plug t) (p .plug u) (p .conforms t c) (p .conforms u d) a);
   }
 
 -- at position i of a row

@@ -6,8 +6,11 @@ pub mod Moves
 pub mod Conforming
 pub mod Explained
 pub mod Growing
+pub mod Differing
+pub mod SameKind
 pub mod Imitating
 pub mod Theorem
 pub mod Answers
 pub mod Readings
 pub mod Story
+pub mod Examples

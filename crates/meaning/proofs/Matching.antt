@@ -1,9 +1,10 @@
 -- The trees of one forest, one to one, lead to trees of another. What stands on both sides cancels. Assumes nothing.
 use Prim.Native.Nat.{ℕ, zero, suc, _≤_}
 use mathlib.Core.Path.{_≡_, refl, ap}
+use mathlib.Core.Logic.{_⊎_, inl, inr, ⊎-map}
 use mathlib.Core.List.{List}
 use native.Mathlib.Omega.{arith}
-use Rattle.meaning.specs.Trees.{Forest, bare, tree, Put, put-first, put-later}
+use Rattle.meaning.specs.Trees.{Forest, bare, tree, Put, put-first, put-later, Anew, anew-first, anew-later}
 use Rattle.meaning.proofs.Putting.{put-some, put-swap, TwoPut, one-place, two-places, two-puts}
 
 -- M leads from each tree of the first forest to a tree of its own of the second
@@ -51,6 +52,12 @@ module _ {M : Forest → Forest → Type 0} where
   into-lone (into-tree m i put-first) = m
   into-lone (into-tree m i (put-later q)) = absurd (put-some q)
 
+-- by M all the way, or E holds
+pub into-either : {M : Forest → Forest → Type 0} {E : Type 0} {f g : Forest} → Into (λ t u. M t u ⊎ E) f g → Into M f g ⊎ E
+into-either into-none = inl into-none
+into-either (into-tree (inl m) i q) = ⊎-map (λ j. into-tree m j q) (λ e. e) (into-either i)
+into-either (into-tree (inr e) i q) = inr e
+
 -- the trees of two forests, one to one
 pub record Matched (M : Forest → Forest → Type 0) (f g : Forest) : Type 0 where
   pub forth : Into M f g
@@ -62,6 +69,11 @@ module _ {M : Forest → Forest → Type 0} where
 
   pub matched-tree : {x y : ℕ} {s r : List ℕ} {k l f g : Forest} → M (tree x s k bare) (tree y r l bare) → Matched M f g → Matched M (tree x s k f) (tree y r l g)
   matched-tree m i = record { forth = into-tree m (i .forth) put-first; back = into-tree m (i .back) put-first }
+
+  -- where M leads from any tree to any other, one may be in another's place
+  pub matched-anew : ((t u : Forest) → M t u) → {x : ℕ} {s : List ℕ} {k f g : Forest} → Anew x s k f g → Matched M f g
+  matched-anew any (anew-first {f = f}) = matched-tree (any _ _) (matched-self (λ t. any t t) f)
+  matched-anew any (anew-later q) = matched-tree (any _ _) (matched-anew any q)
 
 -- by M to a forest, and by N from there on
 pub record Onward (N : Forest → Forest → Type 0) (t f h : Forest) : Type 0 where

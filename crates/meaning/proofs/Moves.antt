@@ -6,8 +6,8 @@ use Rattle.table.specs.Privilege.{Edit, privilegeOf}
 use Rattle.meaning.specs.Trees.{Forest, bare, tree, put-first, Same, same-none, same-tree}
 use Rattle.meaning.specs.Edits.{AtNode, Makes, at, below, beside, Leads, stay, go}
 use Rattle.meaning.proofs.Putting.{Some}
-use Rattle.meaning.proofs.Matching.{Into, into-none, into-tree, into-self, into-join, Reflexive, Transitive, Matched, matched-self, matched-tree}
-use Rattle.meaning.proofs.Orders.{same-refl, same-sym}
+use Rattle.meaning.proofs.Matching.{Into, into-self, into-join, Reflexive, Transitive, Matched, matched-self, matched-tree}
+use Rattle.meaning.proofs.Orders.{same-refl, same-sym, same-into}
 
 -- one edit, or another order
 pub data Move (ws : List ℕ) (S : ℕ → Type 0) : Forest → Forest → Type 0 where
@@ -35,10 +35,6 @@ pub makes-some : {ws : List ℕ} {e : Edit} {f g : Forest} → Makes ws e f g �
 makes-some (at m) = tt
 makes-some (below m) = tt
 makes-some (beside m) = tt
-
-same-into : {M : Forest → Forest → Type 0} → ((t u : Forest) → Same t u → M t u) → {f g : Forest} → Same f g → Into M f g
-same-into h same-none = into-none
-same-into h (same-tree a b q) = into-tree (h _ _ (same-tree a same-none put-first)) (same-into h b) q
 
 module _ {ws : List ℕ} {S : ℕ → Type 0} where
   moves-from : {t u v : Forest} → Move ws S t u → Moves ws S u v → Moves ws S t v
@@ -70,7 +66,7 @@ module _ {ws : List ℕ} {S : ℕ → Type 0} where
   move-matched (ordered s) = record { forth = same-into (λ t u a. ordered a) s; back = same-into (λ t u a. ordered (same-sym a)) (same-sym s) }
   move-matched (edited e a m) = makes-matched e a m
 
-  pub into-moved : {f g h : Forest} → Into (Moves ws S) f g → Move ws S g h → Into (Moves ws S) f h
+  into-moved : {f g h : Forest} → Into (Moves ws S) f g → Move ws S g h → Into (Moves ws S) f h
   into-moved i m = into-join (λ t u v p w. then p w) i (move-matched m .forth)
 
   pub moves-into : {f g : Forest} → Moves ws S f g → Into (Moves ws S) f g

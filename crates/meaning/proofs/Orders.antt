@@ -1,12 +1,14 @@
 -- To be the same up to the order of siblings is the least equivalence for which neighbours may change places, at every depth; and what an edit makes of
 -- one of two such forests it makes of the other, up to order. So the paper's unordered trees are our trees up to order. Assumes nothing.
-use Prim.Native.Nat.{ℕ}
+use Prim.Native.Nat.{ℕ, _≤_}
 use mathlib.Core.Path.{_≡_, refl}
 use mathlib.Core.List.{List}
+use native.Mathlib.Omega.{arith}
 use Rattle.table.specs.Privilege.{Edit}
 use Rattle.meaning.specs.Trees.{Forest, bare, tree, Put, put-first, put-later, Same, same-none, same-tree}
-use Rattle.meaning.specs.Edits.{AtNode, set-text, put-in, put-out, exchange, Makes, at, below, beside}
-use Rattle.meaning.proofs.Putting.{put-swap}
+use Rattle.meaning.specs.Edits.{AtNode, set-text, put-in, put-out, put-anew, put-for, Makes, at, below, beside}
+use Rattle.meaning.proofs.Putting.{Some, put-swap, anew-puts, put-room}
+use Rattle.meaning.proofs.Matching.{Into, into-none, into-tree, into-size, into-cancel, into-first, size, size-put}
 
 pub same-refl : (t : Forest) → Same t t
 same-refl bare = same-none
@@ -70,6 +72,34 @@ module _ {E : Forest → Forest → Type 0} (r : Reorders E) where
   same-least same-none = r .self bare
   same-least (same-tree {x} {s} {k} {l} {f} {g} {h} a b q) = r .on _ (tree x s l g) h (r .deep x s k l f g (same-least a) (same-least b)) (put-least q)
 
+-- what is alike of two trees that are the same; and there is none where there is no tree
+pub same-lone : {x y : ℕ} {s r : List ℕ} {k l : Forest} → Same (tree x s k bare) (tree y r l bare) → (x ≡ y) × (s ≡ r) × Same k l
+same-lone (same-tree a same-none put-first) = (refl, refl, a)
+
+pub same-bare : {f : Forest} → Same bare f → ¬ Some f
+same-bare same-none s = s
+
+-- forests are the same if their trees are, one to one
+pub same-into : {M : Forest → Forest → Type 0} → ((t u : Forest) → Same t u → M t u) → {f g : Forest} → Same f g → Into M f g
+same-into h same-none = into-none
+same-into h (same-tree a b q) = into-tree (h _ _ (same-tree a same-none put-first)) (same-into h b) q
+
+into-same : {f g : Forest} → Into Same f g → size g ≤ size f → Same f g
+unfolding size
+into-same {g = bare} into-none h = same-none
+into-same {g = tree x s k f} into-none h = absurd (omega arith)
+into-same (into-tree (same-tree a same-none put-first) i q) h = same-tree a (into-same i (omega (arith, size-put q))) q
+
+-- so the same tree in front cancels, and so do the same trees behind
+same-less : {x : ℕ} {s : List ℕ} {k f g : Forest} → Same (tree x s k f) (tree x s k g) → Into Same f g
+same-less a = into-cancel (λ t u v b c. same-trans b c) (same-into (λ t u b. b) a) put-first put-first
+
+pub same-rest : {x : ℕ} {s : List ℕ} {k f g : Forest} → Same (tree x s k f) (tree x s k g) → Same f g
+same-rest a = into-same (same-less a) (into-size (same-less (same-sym a)))
+
+pub same-first : {x y : ℕ} {s r : List ℕ} {k l : Forest} (f : Forest) → Same (tree x s k f) (tree y r l f) → Same (tree x s k bare) (tree y r l bare)
+same-first f a = into-first (λ t u v b c. same-trans b c) f (same-into (λ t u b. b) a)
+
 -- an edit of a forest, made on another
 pub record Follows (ws : List ℕ) (e : Edit) (g h : Forest) : Type 0 where
   pub result : Forest
@@ -95,9 +125,18 @@ at-follows : {ws : List ℕ} {e : Edit} {x : ℕ} {s r : List ℕ} {k l m : Fore
 at-follows {l = l} a (set-text i) = record { result = l; made = set-text i; alike = a }
 at-follows {l = l} a (put-in {y = y} {r = r} {m = m} i h v q) = record { result = tree y r m l; made = put-in i h v put-first; alike = same-put q (same-refl m) a }
 at-follows a (put-out i q) = let f = found q a in record { result = f .rest; made = put-out i (f .there); alike = f .rest-same }
-at-follows a (exchange {z = z} {q = q} {n = n} o g h v) =
+at-follows a (put-anew {r = r} {m = m} c y v q) =
+    let p = anew-puts q in
+    let f = found (p .old) a in
+    let n = put-room r m (f .there) in
+    record {
+      result = n .result;
+      made = put-anew c y v (n .anew);
+      alike = same-trans (same-put (p .new) (same-refl m) (f .rest-same)) (same-tree (same-refl m) (same-refl (f .rest)) (n .put));
+    }
+at-follows a (put-for {z = z} {q = q} {n = n} o g h v) =
     let l = lone-same a in
-    record { result = tree z q n bare; made = rw (l .1) (exchange o g h v); alike = same-refl (tree z q n bare) }
+    record { result = tree z q n bare; made = rw (l .1) (put-for o g h v); alike = same-refl (tree z q n bare) }
 
 module _ {ws : List ℕ} {e : Edit} where
   put-changed : {x : ℕ} {s r : List ℕ} {l m g h : Forest} → ((f : Forest) → Makes ws e (tree x s l f) (tree x r m f)) → Put x s l g h → Changed ws e x r m g h

@@ -8,17 +8,16 @@ use mathlib.Core.List.{List, []}
 use native.Mathlib.Omega.{arith}
 use Rattle.table.specs.Sum.{sumBelow}
 use Rattle.table.specs.Rule.{ruleOf, ruleAt, childrenAt, countOf, OfKind, IsText, IsChoice, IsStar}
-use Rattle.table.specs.Privilege.{privilegesAt, firstPrivilege, privileges, replaceOf, Replaceable, text, insert, delete, replace}
+use Rattle.table.specs.Privilege.{gapOf, privilegesAt, firstPrivilege, privileges, replaceOf, Replaceable, text, insert, delete, replace}
 use Rattle.table.specs.Check.{Accepted}
 use Rattle.table.proofs.Tables.{sample, marksOf}
 use Rattle.policy.specs.Marks.{Allowed}
 use Rattle.verdict.proofs.PolicyTests.{accepted-out}
 use Rattle.meaning.specs.Trees.{Forest, bare, tree, as-empty, as-text, as-sequence, as-choice, as-star, no-tree, conforming, ConformsAt, Document, Same, put-first}
-use Rattle.meaning.specs.Edits.{set-text, put-in, put-out, exchange, Makes, at, below, beside, Leads, stay, go}
+use Rattle.meaning.specs.Edits.{set-text, put-in, put-out, put-for, Makes, at, below, beside, Leads, stay, go}
 use Rattle.meaning.specs.Consistent.{Imitation}
+use Rattle.meaning.proofs.Putting.{textIn, kidsOf, restOf}
 use Rattle.meaning.proofs.Orders.{same-refl}
-use Rattle.meaning.proofs.Growing.{kidsOf, restOf}
-use Rattle.meaning.proofs.Imitating.{textIn}
 use Rattle.meaning.proofs.Theorem.{changes-more}
 
 -- the marks: insert and delete of a layer are allowed (0 and 1), its range is forbidden (3)
@@ -72,10 +71,10 @@ is-held = record { type = omega arith; kind-is = refl }
 
 held-for-draft : Replaceable sample 4 0 1
 unfolding countOf ruleAt ruleOf
-held-for-draft = record { choice = is-state; from = omega arith; to = omega arith; apart = λ e. omega arith }
+held-for-draft = record { choice = is-state; from = omega arith; to = omega arith; same-kind = λ e. absurd (omega arith) }
 
 sample-accepted : Accepted sample
-unfolding firstPrivilege privilegesAt privileges childrenAt countOf ruleAt ruleOf sumBelow
+unfolding firstPrivilege gapOf privilegesAt privileges childrenAt countOf ruleAt ruleOf sumBelow
 sample-accepted = accepted-out refl
 
 module _ (name : List ℕ) where
@@ -91,22 +90,22 @@ module _ (name : List ℕ) where
 
   -- 0 to insert a layer, 1 to delete it, 4 to set it from draft to held
   pub asks-insert : (range : List ℕ) → Leads sample (λ p. p ≡ 0) (job bare) (job (layer name range))
-  unfolding firstPrivilege privilegesAt childrenAt ruleAt ruleOf sumBelow
+  unfolding firstPrivilege gapOf privilegesAt childrenAt ruleAt ruleOf sumBelow
   asks-insert range = go (insert 0) refl (at (put-in is-job refl (layer-conforms range) put-first)) stay
 
   pub asks-delete : (range : List ℕ) → Leads sample (λ p. p ≡ 1) (job (layer name range)) (job bare)
-  unfolding firstPrivilege privilegesAt childrenAt ruleAt ruleOf sumBelow
+  unfolding firstPrivilege gapOf privilegesAt childrenAt ruleAt ruleOf sumBelow
   asks-delete range = go (delete 0) refl (at (put-out is-job put-first)) stay
 
   pub asks-held : (range : List ℕ) → Leads sample (λ p. p ≡ 4) (job (layerIn draft name range)) (job (layerIn held name range))
-  unfolding firstPrivilege privilegesAt replaceOf countOf childrenAt ruleAt ruleOf sumBelow
+  unfolding firstPrivilege gapOf privilegesAt replaceOf countOf childrenAt ruleAt ruleOf sumBelow
   asks-held range = go (replace 4 0 1) refl
-      (below (below (beside (beside (at (exchange held-for-draft refl refl (conforming (as-empty is-held refl refl) no-tree no-tree))))))) stay
+      (below (below (beside (beside (at (put-for held-for-draft refl refl (conforming (as-empty is-held refl refl) no-tree no-tree))))))) stay
 
   module _ (old new : List ℕ) where
     -- 3 to change its range
     pub asks-text : Leads sample (λ p. p ≡ 3) (job (layer name old)) (job (layer name new))
-    unfolding firstPrivilege privilegesAt ruleAt ruleOf sumBelow
+    unfolding firstPrivilege gapOf privilegesAt ruleAt ruleOf sumBelow
     asks-text = go (text 3) refl (below (below (beside (at (set-text is-range))))) stay
 
     -- the forbidden edit
@@ -115,11 +114,11 @@ module _ (name : List ℕ) where
 
     -- the two allowed ones
     pub deleted-inserted : Leads sample (Allowed vendor) (job (layer name old)) (job (layer name new))
-    unfolding firstPrivilege privilegesAt childrenAt ruleAt ruleOf sumBelow
+    unfolding firstPrivilege gapOf privilegesAt childrenAt ruleAt ruleOf sumBelow
     deleted-inserted = go (delete 0) refl (at (put-out is-job put-first)) (go (insert 0) refl (at (put-in is-job refl (layer-conforms new) put-first)) stay)
 
     pub vendor-imitates : old ≢ new → Imitation sample Same vendor
-    unfolding firstPrivilege privilegesAt ruleAt ruleOf sumBelow
+    unfolding firstPrivilege gapOf privilegesAt ruleAt ruleOf sumBelow
     vendor-imitates d = record {
       edit = text 3;
       forbidden = refl;
@@ -133,6 +132,6 @@ module _ (name : List ℕ) where
           leads = deleted-inserted;
           same-end = same-refl (job (layer name new));
         };
-        changes = changes-more sample-accepted (job-conforms old) range-changed (λ q. d (ap (λ (t : Forest). textIn (restOf (kidsOf (kidsOf t)))) q));
+        changes = changes-more sample-accepted (λ h. h) (job-conforms old) range-changed (λ q. d (ap (λ (t : Forest). textIn (restOf (kidsOf (kidsOf t)))) q));
       };
     }

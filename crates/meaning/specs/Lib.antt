@@ -2,5 +2,6 @@
 pub mod Trees
 pub mod Edits
 pub mod Consistent
+pub mod SameKind
 pub mod Readings
 pub mod Meaning

@@ -1,4 +1,4 @@
--- What judging a policy answers, by what the policy means. Assumes nothing.
+-- What judging a policy answers, by what the policy means, but in format 2: specs/SameKind has what is otherwise there. Assumes nothing.
 use Prim.Native.Nat.{ℕ}
 use mathlib.Core.Path.{_≡_}
 use mathlib.Core.List.{List}

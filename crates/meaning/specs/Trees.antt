@@ -45,6 +45,11 @@ pub data Put (x : ℕ) (s : List ℕ) (k : Forest) : Forest → Forest → Type 
   put-first : {f : Forest} → Put x s k f (tree x s k f)
   put-later : {y : ℕ} {r : List ℕ} {l f g : Forest} → Put x s k f g → Put x s k (tree y r l f) (tree y r l g)
 
+-- g is f with one of its trees, of type x, replaced by the tree of type x, text s and children k
+pub data Anew (x : ℕ) (s : List ℕ) (k : Forest) : Forest → Forest → Type 0 where
+  anew-first : {r : List ℕ} {l f : Forest} → Anew x s k (tree x r l f) (tree x s k f)
+  anew-later : {y : ℕ} {r : List ℕ} {l f g : Forest} → Anew x s k f g → Anew x s k (tree y r l f) (tree y r l g)
+
 -- Definition 4, isomorphic: the same but for the order of siblings, at every depth
 pub data Same : Forest → Forest → Type 0 where
   same-none : Same bare bare

@@ -5,7 +5,7 @@ use mathlib.Core.Path.{_≡_, refl}
 use mathlib.Core.List.{List, [], _∷_, map}
 use Rattle.table.specs.Sum.{sumBelow}
 use Rattle.table.specs.Rule.{ruleOf, ruleAt, childrenAt, countOf}
-use Rattle.table.specs.Privilege.{privilegesAt, firstPrivilege, privileges, replaceOf}
+use Rattle.table.specs.Privilege.{gapOf, privilegesAt, firstPrivilege, privileges, replaceOf}
 use Rattle.table.proofs.Tables.{Each, each-computed, marksOf, sample, four}
 use Rattle.verdict.specs.Answers.{breached}
 use Rattle.verdict.specs.declared.Answer.{Answer}
@@ -52,7 +52,7 @@ again-right (mends words m n count) = mend-by words m
 again-right (judges words m n answer) = propose-by words m n
 
 computed : map again rows ≡ rows
-unfolding sumBelow ruleOf ruleAt childrenAt countOf privilegesAt firstPrivilege privileges replaceOf
+unfolding sumBelow ruleOf ruleAt childrenAt countOf gapOf privilegesAt firstPrivilege privileges replaceOf
 computed = refl
 
 pub samples : Each Right rows

@@ -3,18 +3,21 @@
 use Prim.Native.Nat.{ℕ, zero, suc, _+_, _≤_}
 use mathlib.Core.Path.{_≡_, refl}
 use mathlib.Core.Logic.{inl, inr}
+use mathlib.Core.Bool.{Bool, true, false}
 use mathlib.Core.List.{List}
 use native.Mathlib.Omega.{arith}
+use lib.Dec.{T}
 use lib.ListN.{set}
 use Rattle.table.specs.steps.Found.{Lowest}
 use Rattle.table.specs.Rule.{countOf}
-use Rattle.table.specs.Privilege.{privileges, deleteOf, replaceOf}
+use Rattle.table.specs.Privilege.{privileges, deleteOf, exchangeOf, replaceOf}
 use Rattle.table.specs.declared.Found.{Found}
 use Rattle.table.specs.declared.Found.the-variants.{At, Nothing}
 use Rattle.table.proofs.Test.{Test, isEqual, both, either, fails, means, settle, lowestOf, lowest-of}
 use Rattle.policy.specs.Marks.{Allowed, marks}
 use Rattle.table.specs.Plus.{last, next}
 use Rattle.policy.specs.Reached.{Reached}
+use Rattle.policy.specs.Renewed.{Both}
 use Rattle.verdict.specs.Conditions.{Clean}
 use Rattle.verdict.specs.Below.{ForbiddenBelow}
 use Rattle.verdict.specs.Breaches.{Spot, spotOf, BreachOf, IsBreach, FirstSpot, FirstBreach, Verdict, clean, broken}
@@ -22,8 +25,8 @@ use Rattle.verdict.specs.Answers as answers
 use Rattle.verdict.specs.declared.Breach.{Breach}
 use Rattle.verdict.specs.declared.Condition.{Condition}
 use Rattle.verdict.specs.declared.Condition.the-variants.{None, InsertDelete, Chain, Cycle}
-use Rattle.verdict.proofs.PolicyTests.{step, reached, verdictBy, verdict-by}
-use Rattle.mending.specs.Mends.{Leads, LowestLead, TakesFor, Takes, Mends, done, more}
+use Rattle.verdict.proofs.PolicyTests.{step, reached, bothAllowed, verdictBy, verdict-by}
+use Rattle.mending.specs.Mends.{Leads, LowestLead, StarTakes, delete, exchange, TakesFor, Takes, Mends, done, more}
 use Rattle.mending.specs.Answers as outcomes
 use Rattle.mending.proofs.Counting.{allowedIn, allowed-less}
 use Rattle.policy.proofs.Policies.{marked-within}
@@ -66,15 +69,29 @@ module _ (ws m : List ℕ) where
       go Nothing h = let l = some-lead r in h (l .0) (l .1 .step .can .to) (l .1)
 
   -- at a breach of each condition
+  abbrev pickBy : ℕ → Bool → ℕ
+  pickBy x true = deleteOf ws x
+  pickBy x false = exchangeOf ws x
+
+  abbrev starBy : ℕ → ℕ
+  starBy x = pickBy x (bothAllowed ws m x .run)
+
+  star-by : (x : ℕ) → StarTakes ws m x (starBy x)
+  star-by x = go (bothAllowed ws m x .run) (bothAllowed ws m x .out) (bothAllowed ws m x .into)
+    where
+      go : (b : Bool) → (T b → Both ws (Allowed m) x) → (Both ws (Allowed m) x → T b) → StarTakes ws m x (pickBy x b)
+      go true out into = delete (out tt) refl
+      go false out into = exchange into refl
+
   abbrev takeAt : Condition → Spot → Found
   takeAt None s = Nothing
-  takeAt InsertDelete s = At (deleteOf ws (s .element))
+  takeAt InsertDelete s = At (starBy (s .element))
   takeAt Chain s = leadBy (s .element) (s .i) (s .j)
   takeAt Cycle s = leadBy (s .element) (s .i) (s .j)
 
   take-at : (c : Condition) (s : Spot) (q : ℕ) → BreachOf ws m (ForbiddenBelow ws m) c s q → Hits (λ p. TakesFor ws m c s p) (takeAt c s)
   take-at None s q h = h
-  take-at InsertDelete s q h = refl
+  take-at InsertDelete s q h = star-by (s .element)
   take-at Chain s q h = lead-by (s .element) (s .i) (s .j) (h .reached)
   take-at Cycle s q h = let r : Reached ws (Allowed m) (s .element) (s .i) (s .j) = rw (h .same) (h .reached) in lead-by (s .element) (s .i) (s .j) r
 

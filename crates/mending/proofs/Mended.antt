@@ -7,18 +7,21 @@ use native.Mathlib.Nat.{zero-add, add-zero, add-assoc}
 use native.Mathlib.Decide.{ℕ-discrete}
 use native.Mathlib.Omega.{arith}
 use lib.ListN.{length, set, length-set}
-use Rattle.table.specs.Privilege.{privileges, Belongs, replaceOf, delete, replace}
+use Rattle.table.specs.Privilege.{privileges, Belongs, replaceOf, delete, exchange, replace}
+use Rattle.table.specs.Rule.{IsStar}
 use Rattle.table.proofs.Lists.{le-or-lt}
 use Rattle.table.proofs.Privileges.{belongs-below, edit-belongs}
 use Rattle.policy.specs.Marks.{Allowed, Forbidden}
+use Rattle.policy.specs.Renewed.{by-both, by-exchange}
 use Rattle.verdict.specs.Conditions.{Clean}
 use Rattle.verdict.specs.Below.{ForbiddenBelow}
-use Rattle.verdict.specs.Breaches.{Spot, IsBreach, BreachOf, FirstSpot}
+use Rattle.verdict.specs.Breaches.{Spot, StarBroken, at-exchange, at-below, IsBreach, BreachOf, FirstSpot}
 use Rattle.verdict.specs.declared.Condition.{Condition}
 use Rattle.verdict.specs.declared.Condition.the-variants.{None, InsertDelete, Chain, Cycle}
 use Rattle.policy.proofs.Policies.{marked-within}
 use Rattle.verdict.proofs.Firsts.{spot-one, clean-none}
-use Rattle.mending.specs.Mends.{LowestLead, TakesFor, Takes, Mends, done, more}
+use Rattle.mending.specs.Mends.{LowestLead, StarTakes, TakesFor, Takes, Mends, done, more}
+use Rattle.mending.specs.Mends as mends
 use Rattle.proposing.specs.Proposals.{Kept, changes}
 use Rattle.mending.specs.steps.Taking.{Follows, start, take}
 use Rattle.mending.proofs.Counting.{allowedIn, taken-here, taken-other, allowed-less, changes-more, changes-none}
@@ -32,9 +35,15 @@ module _ (ws m : List ℕ) where
       go (inl g) (inr h) = absurd (b .lowest (a .k) h (a .leads))
       go (inr g) h = absurd (a .lowest (b .k) g (b .leads))
 
+  star-takes-one : {x p q : ℕ} → StarTakes ws m x p → StarTakes ws m x q → p ≡ q
+  star-takes-one (mends.delete b e) (mends.delete c f) = e ∙ sym f
+  star-takes-one (mends.delete b e) (mends.exchange d f) = absurd (d b)
+  star-takes-one (mends.exchange d e) (mends.delete c f) = absurd (d c)
+  star-takes-one (mends.exchange d e) (mends.exchange c f) = e ∙ sym f
+
   takes-for-one : (k : Condition) (s : Spot) (p q : ℕ) → TakesFor ws m k s p → TakesFor ws m k s q → p ≡ q
   takes-for-one None s p q g h = absurd g
-  takes-for-one InsertDelete s p q g h = g ∙ sym h
+  takes-for-one InsertDelete s p q g h = star-takes-one g h
   takes-for-one Chain s p q g h = lowest-lead-one g h
   takes-for-one Cycle s p q g h = lowest-lead-one g h
 
@@ -42,9 +51,15 @@ module _ (ws m : List ℕ) where
   takes-one s = takes-for-one (s .condition) s
 
   -- what is taken was allowed, and is a privilege of the breached type
+  star-takes : {x p q : ℕ} → IsStar ws x → StarBroken ws m (ForbiddenBelow ws m) x q → StarTakes ws m x p → Allowed m p × Belongs ws p x
+  star-takes {x} s f (mends.delete b e) = (rw e (b .delete), rw e (edit-belongs ws (delete x) s))
+  star-takes s (at-exchange f q) (mends.exchange d e) = absurd (d (f .both))
+  star-takes s (at-below f (by-both b) w) (mends.exchange d e) = absurd (d b)
+  star-takes {x} s (at-below f (by-exchange c a) w) (mends.exchange d e) = (rw e a, rw e (edit-belongs ws (exchange x) c))
+
   takes-by : (k : Condition) (s : Spot) (q p : ℕ) → BreachOf ws m (ForbiddenBelow ws m) k s q → TakesFor ws m k s p → Allowed m p × Belongs ws p (s .element)
   takes-by None s q p h g = absurd g
-  takes-by InsertDelete s q p h g = (rw g (h .delete), rw g (edit-belongs ws (delete (s .element)) (h .star)))
+  takes-by InsertDelete s q p h g = star-takes (h .star) (h .broken) g
   takes-by Chain s q p h g = let l = g .leads .step in (rw (g .is) (l .allowed), rw (g .is) (edit-belongs ws (replace (s .element) (s .i) (g .k)) (l .can)))
   takes-by Cycle s q p h g = let l = g .leads .step in (rw (g .is) (l .allowed), rw (g .is) (edit-belongs ws (replace (s .element) (s .i) (g .k)) (l .can)))
 

@@ -5,10 +5,8 @@ use mathlib.Core.Logic.{_≢_, _⊎_, inl, inr}
 use mathlib.Core.Bool.{true}
 use mathlib.Core.List.{List}
 use native.Mathlib.Omega.{arith}
-use lib.ListN.{length, set}
 use Rattle.table.specs.Plus.{last, next}
 use Rattle.table.specs.Rule.{ruleAt, kindIn, IsChoice, IsStar, countOf}
-use Rattle.table.specs.Privilege.{deleteOf}
 use Rattle.table.specs.steps.Numbering.{NumberedAs, replaceIn}
 use Rattle.table.specs.declared.privilege.Numbering.{Numbering}
 use Rattle.table.proofs.Lowest.{told-yes}
@@ -19,17 +17,16 @@ use Rattle.policy.specs.steps.Squares.{marked, Square}
 use Rattle.policy.proofs.Reaches.{reached-from, reached-to}
 use Rattle.policy.proofs.SquareLaws.{step-out, step-into, told-marked}
 use Rattle.verdict.specs.Below.{ForbiddenBelow}
-use Rattle.verdict.specs.Breaches.{conditionNumber, Spot, spotOf, IsBreach, FirstSpot}
+use Rattle.verdict.specs.Breaches.{conditionNumber, spotOf, IsBreach, FirstSpot}
 use Rattle.verdict.specs.steps.Lows.{Kept}
 use Rattle.verdict.specs.steps.Visits.{Searched, none, first, BreachAt}
 use Rattle.verdict.specs.declared.Breach.{Breach}
 use Rattle.verdict.specs.declared.Condition.{Condition}
 use Rattle.verdict.specs.declared.Condition.the-variants.{None, Cycle}
 use Rattle.verdict.proofs.Firsts.{CleanBefore, clean-more, at-none, at-first, searched-first}
-use Rattle.verdict.proofs.Breached.{plain-none, star-only, star-closed, choice-only}
+use Rattle.verdict.proofs.Breached.{plain-none, star-only, choice-only}
 use Rattle.verdict.proofs.Kept.{breach-as, spot-as}
-use Rattle.mending.proofs.Counting.{taken-here}
-use Rattle.mending.specs.Mends.{Leads, LowestLead, TakesFor}
+use Rattle.mending.specs.Mends.{Leads, LowestLead, StarTakes, TakesFor}
 use Rattle.mending.specs.steps.Taking.{CleanUpTo, Visited, LeadsIn, LowestIn, TakenAt}
 
 -- the square's leads are the choice's
@@ -87,14 +84,15 @@ module _ {ws m low : List ℕ} {x : ℕ} {kids : List ℕ} {n : Numbering} (v : 
         before : CleanBefore ws m (Kept low) x
         before s p h = let r = breach-as m (v .policy .accepted) (v .spoilt .onto) s p h in v .clean s (r .0) (r .1)
 
-    pub star-next : IsStar ws x → TakenAt ws m x (deleteOf ws x)
-    star-next star = record {
-      spot = spotOf b;
-      first = spot;
-      here = here .here;
-      takes = subst (λ (c : Condition). TakesFor ws m c (spotOf b) (deleteOf ws x)) (sym (star-only ws m (Kept low) x star (spotOf b) (b .privilege) here .0))
-          (ap (deleteOf ws) (sym (here .here)));
-    }
+    pub star-next : {p : ℕ} → IsStar ws x → StarTakes ws m x p → TakenAt ws m x p
+    star-next {p} star t =
+        let takes : StarTakes ws m (b .element) p = rw (here .here) t in
+        record {
+          spot = spotOf b;
+          first = spot;
+          here = here .here;
+          takes = subst (λ (c : Condition). TakesFor ws m c (spotOf b) p) (sym (star-only ws m (Kept low) x star (spotOf b) (b .privilege) here .0)) takes;
+        }
 
     pub choice-reached : IsChoice ws x → Reached ws (Allowed m) x (b .i) (b .j)
     choice-reached choice = elim (choice-only ws m (Kept low) x choice (spotOf b) (b .privilege) here) [
@@ -121,16 +119,7 @@ module _ {ws m low : List ℕ} {x : ℕ} {kids : List ℕ} {n : Numbering} (v : 
           | inr h ↦ subst (λ (c : Condition). TakesFor ws m c (spotOf b) p) (sym (h .0)) lead
         ]
 
--- a type at which there is no breach is passed
-pass : {ws m : List ℕ} {x : ℕ} → CleanUpTo ws m x → ((s : Spot) (p : ℕ) → ¬ BreachAt ws m (ForbiddenBelow ws m) x s p) → CleanUpTo ws m (x + 1)
-pass {ws} {m} h d = clean-more ws m (ForbiddenBelow ws m) h (λ s p b e. d s p (record { breach = b; here = e }))
-
--- one that is neither a star nor a choice
+-- a type that is neither a star nor a choice is passed
 pub plain-next : {ws m : List ℕ} {x : ℕ} → CleanUpTo ws m x → kindIn (ruleAt ws x) ≢ 3 → kindIn (ruleAt ws x) ≢ 4 → CleanUpTo ws m (x + 1)
-plain-next {ws} {m} {x} h c d = pass h (plain-none ws m (ForbiddenBelow ws m) x c d)
-
--- a star whose delete was taken
-pub star-again : {ws : List ℕ} (m : List ℕ) {x : ℕ} → IsStar ws x → deleteOf ws x < length m → CleanUpTo ws (set m (deleteOf ws x) 2) x
-    → CleanUpTo ws (set m (deleteOf ws x) 2) (x + 1)
-star-again {ws} m {x} s l h =
-    pass h (star-closed ws (set m (deleteOf ws x) 2) (ForbiddenBelow ws (set m (deleteOf ws x) 2)) x s (λ both. omega (arith, both .1, taken-here m (deleteOf ws x) l)))
+plain-next {ws} {m} {x} h c d =
+    clean-more ws m (ForbiddenBelow ws m) h (λ s p b e. plain-none ws m (ForbiddenBelow ws m) x c d s p (record { breach = b; here = e }))

@@ -1,5 +1,5 @@
 -- The rows that a choice's marks were read into, when one of its marks is taken: one bit of each is the other one. Assumes nothing.
-use Prim.Native.Nat.{ℕ, _<_}
+use Prim.Native.Nat.{ℕ, _≤_, _<_}
 use mathlib.Core.Path.{_≡_, sym, _∙_}
 use mathlib.Core.Logic.{_≢_, _⊎_, inl, inr}
 use mathlib.Core.Bool.{Bool, true, false, not}
@@ -15,13 +15,13 @@ use Rattle.table.proofs.Privileges.{replace-in-one}
 use Rattle.policy.specs.steps.Squares.{marked, Square, MarkedIn, StepIn, Read, Toggled}
 use Rattle.mending.proofs.Counting.{taken-here, taken-other}
 
-module _ {m : List ℕ} {n : Numbering} {i k : ℕ} (step : StepIn m n i k) (low : replaceIn n i k < length m) where
+module _ {m : List ℕ} {n : Numbering} {i k : ℕ} (narrow : n .gap ≤ 1) (step : StepIn m n i k) (low : replaceIn n i k < length m) where
   abbrev taken : List ℕ
   taken = set m (replaceIn n i k) 2
 
   -- every other replacement keeps its mark
   kept : {a b : ℕ} → ¬ ((a ≡ i) × (b ≡ k)) → ReplaceableIn n a b → getD taken (replaceIn n a b) 0 ≡ getD m (replaceIn n a b) 0
-  kept {a} {b} d can = taken-other m (replaceIn n i k) low (replaceIn n a b) (λ e. d (replace-in-one n a b i k can (step .can) e))
+  kept {a} {b} d can = taken-other m (replaceIn n i k) low (replaceIn n a b) (λ e. d (replace-in-one n a b i k narrow can (step .can) e))
 
   other : (mark a b : ℕ) (r : Bool) → ¬ ((a ≡ i) × (b ≡ k)) → Tells (MarkedIn mark m n a b) r → Tells (MarkedIn mark taken n a b) r
   other mark a b r d =

@@ -2,28 +2,31 @@
 -- privilege of x leaves it told which types have something forbidden below them, and no type before x comes to have a breach. Assumes
 -- nothing.
 use Prim.Native.Nat.{ℕ, _+_, _≤_, _<_}
-use mathlib.Core.Path.{_≡_, sym, subst, _∙_}
-use mathlib.Core.Logic.{_≢_}
+use mathlib.Core.Path.{_≡_, refl, sym, subst, _∙_}
+use mathlib.Core.Logic.{_≢_, inl, inr}
 use mathlib.Core.List.{List}
 use native.Mathlib.Decide.{ℕ-discrete}
 use native.Mathlib.Omega.{arith}
 use lib.ListN.{length, getD, set, length-set}
 use Rattle.table.specs.Words.{types}
-use Rattle.table.specs.Rule.{childAt, countOf}
-use Rattle.table.specs.Privilege.{Belongs, privileges, insertOf, deleteOf, replace}
+use Rattle.table.specs.Rule.{childAt, countOf, IsStar}
+use Rattle.table.specs.Privilege.{Belongs, privileges, exchangeOf, exchange, replace}
 use Rattle.table.specs.Below.{Below, here, down}
 use Rattle.table.specs.Check.{Accepted}
+use Rattle.table.proofs.Test.{settle}
 use Rattle.table.proofs.Belows.{below-trans}
 use Rattle.table.proofs.Privileges.{belongs-one, belongs-below, edit-belongs}
 use Rattle.table.proofs.Facts.{facts, child-at}
 use Rattle.policy.specs.Marks.{Allowed, Forbidden, Policy}
 use Rattle.policy.proofs.Policies.{marked-within}
 use Rattle.policy.proofs.Reaches.{reached-from, reached-mono}
+use Rattle.policy.proofs.Renewals.{both-mono, renewed-mono}
 use Rattle.verdict.specs.Below.{ForbiddenBelow}
-use Rattle.verdict.specs.Breaches.{Spot, BreachOf, IsBreach}
+use Rattle.verdict.specs.Breaches.{Spot, StarBroken, at-exchange, at-below, BreachOf, IsBreach}
 use Rattle.verdict.specs.declared.Condition.{Condition}
 use Rattle.verdict.specs.declared.Condition.the-variants.{None, InsertDelete, Chain, Cycle}
 use Rattle.verdict.proofs.Firsts.{clean-all, none-clean}
+use Rattle.verdict.proofs.PolicyTests.{barred}
 use Rattle.mending.specs.Mends.{Mends}
 use Rattle.mending.specs.steps.Taking.{Spoilt, CleanUpTo, Cleaned, Follows, take, TakenAt}
 use Rattle.mending.proofs.Counting.{allowedIn, allowed-most, allowed-less, taken-here, taken-other}
@@ -40,9 +43,16 @@ child-of {ws} {x} {i} a l h = down (childAt ws x i) (child-at a x i l h) here
 breach-spoils : {ws m : List ℕ} → Accepted ws → (s : Spot) (p : ℕ) → IsBreach ws m s p → (q : ℕ) × ForbiddenBelow ws m (s .element) q
 breach-spoils {ws} {m} a s p h = go (s .condition) h
   where
+    star : {x : ℕ} → IsStar ws x → StarBroken ws m (ForbiddenBelow ws m) x p → ForbiddenBelow ws m x p
+    star {x} i (at-exchange f e) = record {
+      below = record { type = x; belongs = rw e (edit-belongs ws (exchange x) (f .can)); below = here };
+      forbidden = rw e (f .forbidden);
+    }
+    star {x} i (at-below d r w) = forbidden-up w (child-of a (i .type) (omega (arith, facts a .star-one x i)))
+
     go : (c : Condition) → BreachOf ws m (ForbiddenBelow ws m) c s p → (q : ℕ) × ForbiddenBelow ws m (s .element) q
     go None g = absurd g
-    go InsertDelete g = (p, forbidden-up (g .below) (child-of a (g .star .type) (omega (arith, facts a .star-one (s .element) (g .star)))))
+    go InsertDelete g = (p, star (g .star) (g .broken))
     go Chain g = (
       p,
       record {
@@ -86,6 +96,18 @@ module _ {ws m : List ℕ} {x p q₀ : ℕ} (own : Belongs ws p x) (a : Allowed 
     back = λ y q l f. let r = spoilt-before y (q, f) in s .back y (r .0) l (r .1);
   }
 
+  -- what breaks another star broke it before, but perhaps by another privilege
+  star-before : {y q : ℕ} → y ≢ x → StarBroken ws (set m p 2) (ForbiddenBelow ws (set m p 2)) y q → (r : ℕ) × StarBroken ws m (ForbiddenBelow ws m) y r
+  star-before {y} d (at-exchange f e) =
+      let other : exchangeOf ws y ≢ p = λ z. d (belongs-one (rw (← z) (edit-belongs ws (exchange y) (f .can))) own) in (
+        exchangeOf ws y,
+        at-exchange (record { can = f .can; both = both-mono allowed-before (f .both); forbidden = sym (taken-other m p low (exchangeOf ws y) other) ∙ f .forbidden }) refl,
+      )
+  star-before {y} {q} d (at-below f r w) = elim (settle (barred ws m y)) [
+    | inl b ↦ (exchangeOf ws y, at-exchange b refl)
+    | inr n ↦ let s = spoilt-before (childAt ws y 0) (q, w) in (s .0, at-below n (renewed-mono allowed-before r) (s .1))
+  ]
+
   -- a spot at another type that is broken was so before, but perhaps by another privilege
   clear : (s : Spot) (q : ℕ) → s .element ≢ x → IsBreach ws (set m p 2) s q → (r : ℕ) × IsBreach ws m s r
   clear s q d h = go (s .condition) h
@@ -93,17 +115,8 @@ module _ {ws m : List ℕ} {x p q₀ : ℕ} (own : Belongs ws p x) (a : Allowed 
       go : (c : Condition) → BreachOf ws (set m p 2) (ForbiddenBelow ws (set m p 2)) c s q → (r : ℕ) × BreachOf ws m (ForbiddenBelow ws m) c s r
       go None g = absurd g
       go InsertDelete g =
-          let b = spoilt-before (childAt ws (s .element) 0) (q, g .below) in (
-            b .0,
-            record {
-              star = g .star;
-              zero-i = g .zero-i;
-              zero-j = g .zero-j;
-              insert = allowed-before (insertOf ws (s .element)) (g .insert);
-              delete = allowed-before (deleteOf ws (s .element)) (g .delete);
-              below = b .1;
-            },
-          )
+          let b = star-before d (g .broken) in
+          (b .0, record { star = g .star; zero-i = g .zero-i; zero-j = g .zero-j; broken = b .1 })
       go Chain g =
           let other : q ≢ p = λ e. d (belongs-one (rw (← e, g .is) (edit-belongs ws (replace (s .element) (s .i) (s .j)) (g .can))) own) in
           (q, record { choice = g .choice; reached = reached-mono allowed-before (g .reached); can = g .can; is = g .is; forbidden = sym (taken-other m p low q other) ∙ g .forbidden })

@@ -1,14 +1,15 @@
--- Mending (document 01, "Completing and mending"): the stated rule and nothing else. While there is a breach, take the first. For condition
--- 1, forbid the delete. For 2 and 3, forbid the replacement of i by the lowest k such that it is allowed and k is j or j is reached from k.
--- Assumes nothing.
+-- Mending (document 01, "Completing and mending"; document 02, order 9): the stated rule and nothing else. While there is a breach, take the first. For
+-- condition 1, forbid the delete if insert and delete are both allowed, otherwise the exchange. For 2 and 3, forbid the replacement of i by the lowest k
+-- such that it is allowed and k is j or j is reached from k. Assumes nothing.
 use Prim.Native.Nat.{ℕ, suc, _<_}
 use mathlib.Core.Path.{_≡_}
 use mathlib.Core.Logic.{_⊎_}
 use mathlib.Core.List.{List}
 use lib.ListN.{set}
-use Rattle.table.specs.Privilege.{deleteOf, replaceOf}
+use Rattle.table.specs.Privilege.{deleteOf, exchangeOf, replaceOf}
 use Rattle.policy.specs.Marks.{Allowed}
 use Rattle.policy.specs.Reached.{Step, Reached}
+use Rattle.policy.specs.Renewed.{Both}
 use Rattle.verdict.specs.Conditions.{Clean}
 use Rattle.verdict.specs.Breaches.{Spot, IsBreach, FirstSpot}
 use Rattle.verdict.specs.declared.Condition.{Condition}
@@ -26,10 +27,15 @@ pub record LowestLead (ws marks : List ℕ) (x i j p : ℕ) : Type 0 where
   pub lowest : (l : ℕ) → l < k → ¬ Leads ws marks x i j l
   pub is : p ≡ replaceOf ws x i k
 
+-- p is the delete of the star x if insert and delete are both allowed, otherwise the exchange
+pub data StarTakes (ws marks : List ℕ) (x p : ℕ) : Type 0 where
+  delete : Both ws (Allowed marks) x → p ≡ deleteOf ws x → StarTakes ws marks x p
+  exchange : ¬ Both ws (Allowed marks) x → p ≡ exchangeOf ws x → StarTakes ws marks x p
+
 -- p is what the rule forbids at a breach of this condition at the spot s
 abbrev pub TakesFor : List ℕ → List ℕ → Condition → Spot → ℕ → Type 0
 TakesFor ws marks None s p = ⊥
-TakesFor ws marks InsertDelete s p = p ≡ deleteOf ws (s .element)
+TakesFor ws marks InsertDelete s p = StarTakes ws marks (s .element) p
 TakesFor ws marks Chain s p = LowestLead ws marks (s .element) (s .i) (s .j) p
 TakesFor ws marks Cycle s p = LowestLead ws marks (s .element) (s .i) (s .j) p
 

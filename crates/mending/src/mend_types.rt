@@ -10,24 +10,48 @@ ghost use Rattle.policy.specs.Marks.{Policy};
 ghost use Rattle.mending.specs.Mends.{Mends};
 ghost use Rattle.mending.specs.steps.Taking.{Spoilt, CleanUpTo, Visited, Cleaned};
 use super::taking::next_taken;
+use super::taking::star_taken;
 use policy::reach::reached_by;
+use policy::renew::is_renewed;
 use policy::rows::read_rows;
 use policy::rows::toggle;
+use table::Found;
 use table::privilege::Numbering;
-use table::privilege::deletion;
+use table::privilege::gap_of;
 use table::privilege::numbers_at;
-use table::privilege::privileges_at;
+use table::privilege::privileges_in;
 use table::privilege::replacement;
 use table::rule::Rule;
 use table::rule::children;
 use table::rule::rule_at;
 use table::words::types;
-use verdict::Condition;
 use verdict::below::forbidden_lows;
 use verdict::breaches::Pair;
-use verdict::breaches::star_breach;
 
-// Mends the star x: where it has a breach, the delete is forbidden.
+// Mends the star x, whose child can be renewed: what the rule takes is forbidden, and once more if it still has a breach.
+fn mend_renewed(
+    words: &[u16],
+    m: &mut [u8],
+    low: &[u16; 256],
+    x: usize,
+    kids: &[u16],
+    n: Numbering,
+) -> usize
+    requires { ⌜ Visited (now words) (now m) (now low) x (now kids) n × IsStar (now words) x ⌝ }
+    ensures { λ r. ⌜ Cleaned (now (words .entry)) (now (low .entry)) x (now (m .entry)) (now (m .exit)) r ⌝ }
+{
+    let mut count = 0;
+    loop {
+        let taken = star_taken(words, m, low, x, kids, n);
+        let Found::At(p) = taken else {
+            return count;
+        };
+        m[p] = 2;
+        count += 1;
+    }
+}
+
+// Mends the star x: where its child cannot be renewed it has no breach.
 fn mend_star(
     words: &[u16],
     m: &mut [u8],
@@ -39,14 +63,10 @@ fn mend_star(
     requires { ⌜ Visited (now words) (now m) (now low) x (now kids) n × IsStar (now words) x ⌝ }
     ensures { λ r. ⌜ Cleaned (now (words .entry)) (now (low .entry)) x (now (m .entry)) (now (m .exit)) r ⌝ }
 {
-    let breach = star_breach(words, m, low, x, kids, n);
-    let condition = breach.condition;
-    if let Condition::None = condition {
-        return 0;
+    if is_renewed(m, n) {
+        return mend_renewed(words, m, low, x, kids, n);
     }
-    let delete = deletion(n);
-    m[delete] = 2;
-    1
+    0
 }
 
 // Mends the choice x: what the rule takes is forbidden, again and again until it has no breach.
@@ -63,7 +83,7 @@ fn mend_choice(
 {
     let mut allowed = [0u16; 16];
     let mut forbidden = [0u16; 16];
-    read_rows(kids, m, n, &mut allowed, &mut forbidden);
+    read_rows(m, n, &mut allowed, &mut forbidden);
     let mut count = 0;
     loop {
         let square = reached_by(words, m, x, n, allowed);
@@ -114,13 +134,15 @@ fn mend_all(words: &[u16], order: &[u8; 256], m: &mut [u8]) -> usize
 {
     let mut low = [0u16; 256];
     forbidden_lows(words, m, order, &mut low);
+    let gap = gap_of(words);
     let e = types(words);
     let mut count = 0;
     let mut first = 0;
     let mut x = 0;
     while x < e {
+        let own = privileges_in(words, x, gap);
         count += mend_type(words, m, &low, x, first);
-        first += privileges_at(words, x);
+        first += own;
         x += 1;
     }
     count

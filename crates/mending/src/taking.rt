@@ -1,16 +1,23 @@
-// What the mending rule takes next at a choice. Contracts cite specs/steps/Taking.
+// What the mending rule takes next at a choice, and at a star. Contracts cite specs/steps/Taking.
 ghost use Prim.Native.Nat.{ℕ, _<_};
 ghost use Rattle.table.specs.steps.Found.{Tells};
-ghost use Rattle.table.specs.Rule.{IsChoice, countOf};
+ghost use Rattle.table.specs.Rule.{IsChoice, IsStar, countOf};
+ghost use Rattle.table.specs.steps.Numbering.{Small};
 ghost use Rattle.policy.specs.Marks.{Allowed};
 ghost use Rattle.policy.specs.Reached.{Reached};
-ghost use Rattle.policy.specs.steps.Squares.{Square, StepIn, Small, Read};
-ghost use Rattle.mending.specs.steps.Taking.{Visited, LeadsIn, LowestIn, NextTaken};
+ghost use Rattle.policy.specs.steps.Squares.{Square, StepIn, Read};
+ghost use Rattle.mending.specs.steps.Taking.{Visited, LeadsIn, LowestIn, StarTaken, NextTaken};
+use policy::renew::both_allowed;
+use policy::rows::first_shared;
 use policy::rows::leads;
+use table::Found;
 use table::privilege::Numbering;
+use table::privilege::deletion;
+use table::privilege::exchange;
 use verdict::Condition;
 use verdict::breaches::Pair;
 use verdict::breaches::breach_in;
+use verdict::breaches::star_breach;
 
 // Does k lead from i to j?
 fn is_lead(
@@ -34,7 +41,7 @@ fn is_lead(
     leads(square, k, j)
 }
 
-// The lowest k that leads from i to j.
+// The lowest k that leads from i to j: the search begins at the lowest by which i may be replaced.
 fn lowest_lead(
     marks: &[u8],
     n: Numbering,
@@ -46,14 +53,15 @@ fn lowest_lead(
     requires { ⌜ Small n × (j < 16) × ((k : ℕ) × LeadsIn (now marks) n (now square) i j k) × Square (n .count) (StepIn (now marks) n) (now allowed) ⌝ }
     ensures { λ r. ⌜ LowestIn (now (marks .entry)) n (now (square .entry)) i j r ⌝ }
 {
-    let mut k = 0;
+    let mut k = first_shared(allowed, allowed, i, n.count);
     while !is_lead(marks, n, square, allowed, i, j, k) {
         k += 1;
     }
     k
 }
 
-// What the rule takes next at the choice x, whose squares tell what is reached, allowed and forbidden: the replacement of one position by another.
+// What the rule takes next at the choice x, whose squares tell what is reached, allowed and forbidden: the replacement of a position by another, or in
+// format 2 by itself.
 pub fn next_taken(
     words: &[u16],
     m: &[u8],
@@ -79,4 +87,27 @@ pub fn next_taken(
         return Pair::At(i, lowest_lead(m, n, square, allowed, i, i));
     }
     Pair::At(i, lowest_lead(m, n, square, allowed, i, breach.j))
+}
+
+// What the rule takes next at the star x: the delete if insert and delete are both allowed, otherwise the exchange.
+pub fn star_taken(
+    words: &[u16],
+    m: &[u8],
+    low: &[u16; 256],
+    x: usize,
+    kids: &[u16],
+    n: Numbering,
+) -> Found
+    requires { ⌜ Visited (now words) (now m) (now low) x (now kids) n × IsStar (now words) x ⌝ }
+    ensures { λ r. ⌜ StarTaken (now (words .entry)) (now (m .entry)) x r ⌝ }
+{
+    let breach = star_breach(words, m, low, x, kids, n);
+    let condition = breach.condition;
+    if let Condition::None = condition {
+        return Found::Nothing;
+    }
+    if both_allowed(m, n) {
+        return Found::At(deletion(n));
+    }
+    Found::At(exchange(n))
 }

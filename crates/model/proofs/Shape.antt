@@ -2,14 +2,15 @@
 -- the number of its privileges. Assumes nothing.
 use Prim.Native.Nat.{ℕ, zero, suc, _+_, _*_, _≤_, _<_}
 use mathlib.Core.Path.{_≡_, refl, sym, _∙_}
+use mathlib.Core.Logic.{inl}
 use mathlib.Core.List.{List, [], _∷_, _++_}
 use native.Mathlib.Omega.{arith}
 use lib.ListN.{length, getD, take, length-append}
 use lib.Seq.{take-suc, take-length}
 use Rattle.table.specs.Sum.{sumBelow}
-use Rattle.table.specs.Words.{countAt, running}
+use Rattle.table.specs.Words.{formatOf, countAt, running}
 use Rattle.table.specs.Rule.{ruleOf, ruleAt}
-use Rattle.table.specs.Privilege.{privilegesAt, firstPrivilege, privileges}
+use Rattle.table.specs.Privilege.{gapOf, privilegesAt, firstPrivilege, privileges}
 use Rattle.table.specs.Check.{Passes}
 use Rattle.table.specs.declared.check.Check.the-variants.{Format, Layout, Kind, Stretch, Bounds}
 use Rattle.grammar.specs.Tree.{Declaration}
@@ -32,12 +33,12 @@ sum-rules rs f g total none more each (suc t) l =
 kids-more : (ps : List Rule) (r : Rule) → length (kidsOfAll (ps ++ (r ∷ []))) ≡ length (kidsOfAll ps) + length (kidsOf r)
 kids-more ps r = rw (kids-split ps (r ∷ [])) (omega (arith, length-append (kidsOfAll ps) (kidsOfAll (r ∷ [])), length-append (kidsOf r) []))
 
-privileges-more : (ps : List Rule) (r : Rule) → privilegesOfAll 1 (ps ++ (r ∷ [])) ≡ privilegesOfAll 1 ps + privilegesIn 1 r
-privileges-more [] r = omega arith
-privileges-more (p ∷ ps) r = omega (arith, privileges-more ps r)
+privileges-more : (format : ℕ) (ps : List Rule) (r : Rule) → privilegesOfAll format (ps ++ (r ∷ [])) ≡ privilegesOfAll format ps + privilegesIn format r
+privileges-more format [] r = omega arith
+privileges-more format (p ∷ ps) r = omega (arith, privileges-more format ps r)
 
-privileges-each : {ws : List ℕ} {x index : ℕ} (r : Rule) → Recorded ws x index r → privilegesAt ws x ≡ privilegesIn 1 r
-unfolding privilegesAt ruleAt ruleOf
+privileges-each : {ws : List ℕ} {x index : ℕ} (r : Rule) → Recorded ws x index r → privilegesAt ws x ≡ privilegesIn (formatOf ws) r
+unfolding gapOf privilegesAt ruleAt ruleOf
 privileges-each empty h = rw (h .kind)
 privileges-each text h = rw (h .kind)
 privileges-each (sequence ks) h = rw (h .kind)
@@ -66,7 +67,11 @@ table-length format ds = words-length format (rulesOf ds)
 -- numbers 1, 2, 3, 5 and 6 cannot fail
 pub format-passes : (ds : List Declaration) → Passes (tableOf 1 ds) Format
 unfolding wordsOf
-format-passes ds p l = record { long = omega (arith, table-length 1 ds); format = refl }
+format-passes ds p l = record { long = omega (arith, table-length 1 ds); format = inl refl }
+
+pub format-is : (format : ℕ) (ds : List Declaration) → formatOf (tableOf format ds) ≡ format
+unfolding wordsOf
+format-is format ds = refl
 
 pub layout-passes : (format : ℕ) (ds : List Declaration) → 1 ≤ length ds → length (rulesOf ds) ≤ 256 → length (kidsOfAll (rulesOf ds)) ≤ 1024
     → Passes (tableOf format ds) Layout
@@ -105,17 +110,17 @@ bounds-passes format ds named t l =
     rw (has (getD rs t empty) (recorded format rs t h) .kids, types-are format rs) (children-inside ds named t h)
 
 -- V, and word 7
-pub privileges-are : (ds : List Declaration) → privileges (tableOf 1 ds) ≡ privilegesOfAll 1 (rulesOf ds)
-unfolding privileges firstPrivilege
-privileges-are ds = rw (types-are 1 rs) (all-types ∙ rw (take-length rs))
+pub privileges-are : (format : ℕ) (ds : List Declaration) → privileges (tableOf format ds) ≡ privilegesOfAll format (rulesOf ds)
+unfolding privileges firstPrivilege wordsOf
+privileges-are format ds = rw (types-are format rs) (all-types ∙ rw (take-length rs))
   where
     rs : List Rule
     rs = rulesOf ds
 
-    all-types : sumBelow (privilegesAt (wordsOf 1 rs)) (length rs) ≡ privilegesOfAll 1 (take (length rs) rs)
-    all-types = sum-rules rs (privilegesAt (wordsOf 1 rs)) (privilegesIn 1) (privilegesOfAll 1) refl privileges-more
-        (λ x l. privileges-each (getD rs x empty) (recorded 1 rs x l)) (length rs) (omega arith)
+    all-types : sumBelow (privilegesAt (wordsOf format rs)) (length rs) ≡ privilegesOfAll format (take (length rs) rs)
+    all-types = sum-rules rs (privilegesAt (wordsOf format rs)) (privilegesIn format) (privilegesOfAll format) refl (privileges-more format)
+        (λ x l. privileges-each (getD rs x empty) (recorded format rs x l)) (length rs) (omega arith)
 
-pub privileges-stated : (ds : List Declaration) → getD (tableOf 1 ds) 7 0 ≡ privileges (tableOf 1 ds)
+pub privileges-stated : (format : ℕ) (ds : List Declaration) → getD (tableOf format ds) 7 0 ≡ privileges (tableOf format ds)
 unfolding wordsOf
-privileges-stated ds = sym (privileges-are ds)
+privileges-stated format ds = sym (privileges-are format ds)

@@ -7,6 +7,7 @@ use mathlib.Core.Bool.{Bool, true, false, _&&_, cond}
 use mathlib.Core.List.{List, [], _∷_, _++_, map}
 use lib.Dec.{eqb}
 use lib.ListN.{length}
+use Rattle.table.specs.Privilege.{gapIn}
 use Rattle.grammar.specs.Tree.{Content, is-empty, is-text, is-any, is-mixed, is-children, Declaration}
 use Rattle.model.specs.Model.{Model, Models, Operator, element, made, either, in-order, optional, repeated, positive, single, then, modelOf}
 
@@ -124,7 +125,7 @@ numberOf ds n = numberIn (namesOf ds) n
 unfoldable pub rulesOf : List Declaration → List Rule
 rulesOf ds = declaredFrom (numberOf ds) (length ds) ds ++ madeFrom (numberOf ds) (length ds) ds
 
--- a rule's kind, children and number of privileges in a format, by document 01's numbers
+-- a rule's kind, children and number of privileges in a format, by document 01's numbers and order 9's
 abbrev pub kindOf : Rule → ℕ
 kindOf empty = 0
 kindOf text = 1
@@ -143,8 +144,8 @@ abbrev pub privilegesIn : ℕ → Rule → ℕ
 privilegesIn format empty = 0
 privilegesIn format text = 1
 privilegesIn format (sequence ks) = 0
-privilegesIn format (choice ks) = length ks * (length ks - cond (eqb format 1) 1 0)
-privilegesIn format (star k) = cond (eqb format 1) 2 3
+privilegesIn format (choice ks) = length ks * (length ks - gapIn format)
+privilegesIn format (star k) = 3 - gapIn format
 
 abbrev pub kidsOfAll : List Rule → List ℕ
 kidsOfAll [] = []

@@ -8,14 +8,13 @@ use native.Mathlib.Omega.{arith}
 use lib.Bits.{bitOr, bitAnd, bitXor, and-shr, and-mod, or-shr, or-mod, xor-shr, xor-mod, and-mask}
 use mathlib.Core.Logic.{_≢_, _⊎_, inl, inr}
 use mathlib.Core.List.{List}
-use Rattle.table.specs.declared.privilege.Numbering.{Numbering}
 use lib.Count.{trailingZeros, under}
 use lib.Dec.{eqb}
 use lib.ListN.{length, getD, set, length-set}
 use lib.Seq.{getD-set-same, getD-set-other}
 use lib.Pow.{shl-exact, shr-shr, high, low, field, mod-mod-pow}
 use Rattle.table.specs.steps.Found.{Tells}
-use Rattle.policy.specs.steps.Squares.{bit, marked, Flags, on, off, MarkIn, there, none, MarkedIn, Row, Toggled}
+use Rattle.policy.specs.steps.Squares.{bit, marked, Flags, on, off, Row, Toggled}
 use Rattle.policy.proofs.SquareLaws.{flags-tell}
 
 -- the bit that a shift and a mask read
@@ -81,9 +80,15 @@ unfolding trailingZeros
 zeros-clear zero w j l = absurd (omega arith)
 zeros-clear (suc k) w j l = clear-under (w % 2) (trailingZeros k (w / 2)) w refl (zeros-clear k (w / 2)) j l
 
--- two words share no bit below the lowest that they share
+-- two words share no bit that is 0 in their meet: none below the lowest that they share, and none at all where the meet is 0
+meet-apart : (a b j : ℕ) → bit (bitAnd a b) j ≡ false → ¬ ((bit a j ≡ true) × (bit b j ≡ true))
+meet-apart a b j e (p, q) = true≢false (sym (bit-and a b j ∙ rw (p, q) refl) ∙ e)
+
 pub unshared : (k a b j : ℕ) → j < trailingZeros k (bitAnd a b) → ¬ ((bit a j ≡ true) × (bit b j ≡ true))
-unshared k a b j l (p, q) = true≢false (sym (bit-and a b j ∙ rw (p, q) refl) ∙ zeros-clear k (bitAnd a b) j l)
+unshared k a b j l = meet-apart a b j (zeros-clear k (bitAnd a b) j l)
+
+pub disjoint : (a b j : ℕ) → bitAnd a b ≡ 0 → ¬ ((bit a j ≡ true) × (bit b j ≡ true))
+disjoint a b j e = meet-apart a b j (rw e (bit-none j))
 
 -- two words side by side, the lower one of m bits
 module _ (m a : ℕ) {b : ℕ} (few : b < 2 ^ m) where
@@ -205,10 +210,3 @@ row-end {P} {n} {j} {row} few zero-j r = record {
   fits = let h : n - j ≤ 16 = omega arith in omega (arith, r .fits, pow-le-pow-right {n = 2} (zero-lt-suc 1) h);
   tells = λ b l. let e : j + b ≡ b = omega arith in subst (λ (x : ℕ). Tells (P x) (bit row b)) e (r .tells b (omega arith));
 }
-
--- the flag of a mark that was read is that of the privilege
-pub mark-flags : {marks : List ℕ} {n : Numbering} {i j r s : ℕ} (mark : ℕ) → mark ≢ 0 → MarkIn marks n i j r → Flags (r ≡ mark) s → Flags (MarkedIn mark marks n i j) s
-mark-flags mark d (there c e) (on p f) = on (record { can = c; is = sym e ∙ p }) f
-mark-flags mark d (there c e) (off q f) = off (λ m. q (e ∙ m .is)) f
-mark-flags mark d (none c e) (on p f) = absurd (d (sym p ∙ e))
-mark-flags mark d (none c e) (off q f) = off (λ m. c (m .can)) f

@@ -2,7 +2,9 @@
 pub mod Policies
 pub mod Closures
 pub mod Reaches
+pub mod Renewals
 pub mod SquareLaws
 pub mod Bits
 pub mod Packing
+pub mod RowMarks
 pub mod Writings

@@ -3,22 +3,16 @@
 use Prim.Native.Nat.{ℕ, zero, suc, _+_, _-_, _*_, _/_, _%_, _^_, _≤_, _<_}
 use mathlib.Core.Path.{_≡_, refl, sym, ap, _∙_}
 use mathlib.Core.List.{List}
-use mathlib.Core.Logic.{_≢_, _⊎_, inl, inr}
-use native.Mathlib.Nat.{add-zero, add-assoc, mul-suc, mul-le-mul-right, mod-lt, zero-lt-suc}
-use native.Mathlib.Numerals.{add-one}
+use mathlib.Core.Logic.{inl, inr}
+use native.Mathlib.Nat.{add-zero, add-assoc, mul-suc, mul-le-mul-right, mod-lt, mod-eq-of-lt, zero-lt-suc}
 use native.Mathlib.Omega.{arith}
 use lib.Arith.{digits-lt}
 use lib.Bits.{bitAnd, and-block, and-mask, and-zero-r}
 use lib.ListN.{getD}
 use lib.Pow.{pow-pos, pow-mono, pow-add, split, shr-mono, mod-mod-pow}
 use Rattle.table.specs.steps.Found.{Tells}
-use Rattle.table.specs.steps.Numbering.{replaceIn, rowIn}
-use Rattle.table.specs.declared.privilege.Numbering.{Numbering}
 use Rattle.table.proofs.Lists.{le-or-lt}
-use Rattle.table.proofs.Lowest.{tells-as}
-use Rattle.table.proofs.Privileges.{row-before, row-behind}
 use Rattle.policy.specs.steps.Squares.{bit}
-use Rattle.policy.specs.steps.Squares.{MarkedIn, Row}
 use Rattle.policy.specs.steps.Packed.{fourAt, placeOf, Eight, Gathered, Sixteen, Opened, Closed}
 use Rattle.policy.proofs.Bits.{bit-from, bit-high, bit-below, beside-low, beside-high, double-low, double-high}
 
@@ -144,23 +138,33 @@ module _ (i row other : ℕ) {word : ℕ} (parts : word ≡ other * 2 ^ i + row 
   parts-high j k e = ap (λ (x : ℕ). bit x j) parts ∙ beside-high i other (mod-lt row (pow-pos i)) k j e
 
 -- a gap opened at i: the bits of the row's own from i on stand one place up
-pub own-few : (w k : ℕ) → k < 16 → w % 2 ^ k < 32768
-own-few w k h = let l : k ≤ 15 = omega arith in omega (arith, pow-mono l, mod-lt w (pow-pos k))
+own-small : (w k l : ℕ) → k ≤ l → w % 2 ^ k < 2 ^ l
+own-small w k l h = omega (arith, pow-mono h, mod-lt w (pow-pos k))
 
-pub opens : (n i bits : ℕ) → i < n → n ≤ 16 → Opened n i bits (2 * (bits % 2 ^ (n - 1)) - bits % 2 ^ (n - 1) % 2 ^ i)
-opens n i bits h few =
-    let own = bits % 2 ^ (n - 1) in
+own-few : (w k : ℕ) → k ≤ 16 → w % 2 ^ k < 65536
+own-few w k h = own-small w k 16 h
+
+-- it fits in 16 bits where the row's own are under 16, or the gap stands past them
+pub gap-fits : (width i bits : ℕ) → width ≤ 16 → (i < 16 → width < 16) → bits % 2 ^ width + (bits % 2 ^ width - bits % 2 ^ width % 2 ^ i) < 65536
+gap-fits width i bits few h = elim (le-or-lt 16 i) [
+  | inl l ↦ let all : bits % 2 ^ width % 2 ^ i ≡ bits % 2 ^ width = mod-eq-of-lt (own-small bits width i (omega arith)) in omega (arith, all, own-few bits width few)
+  | inr l ↦ omega (arith, own-small bits width 15 (omega (arith, h l)))
+]
+
+pub gap-opens : (width i bits : ℕ) → bits % 2 ^ width + (bits % 2 ^ width - bits % 2 ^ width % 2 ^ i) < 65536 → Opened width i bits (bits % 2 ^ width + (bits % 2 ^ width - bits % 2 ^ width % 2 ^ i))
+gap-opens width i bits fits =
+    let own = bits % 2 ^ width in
     let up = 2 * (own / 2 ^ i) + 0 in
-    let parts : 2 * own - own % 2 ^ i ≡ up * 2 ^ i + own % 2 ^ i = omega (arith, split own i) in
+    let parts : own + (own - own % 2 ^ i) ≡ up * 2 ^ i + own % 2 ^ i = omega (arith, split own i) in
     record {
-      fits = omega (arith, own-few bits (n - 1) (omega arith));
-      before = λ j l. parts-low i own up parts j l ∙ bit-below (n - 1) bits j (omega arith);
+      fits = fits;
+      before = λ j l g. parts-low i own up parts j l ∙ bit-below width bits j g;
       here = parts-high i own up parts i 0 (omega arith) ∙ double-low (own / 2 ^ i) 0 (zero-lt-suc 1);
       behind = λ j l g.
           parts-high i own up parts (suc j) (suc (j - i)) (omega arith)
           ∙ double-high (own / 2 ^ i) 0 (j - i) (zero-lt-suc 1)
           ∙ bit-from i own (j - i) j (omega arith)
-          ∙ bit-below (n - 1) bits j (omega arith);
+          ∙ bit-below width bits j g;
     }
 
 -- a gap closed at i: the bits behind i stand one place down
@@ -181,42 +185,3 @@ module _ (i row : ℕ) where
     before = parts-low i row (row / 2 / 2 ^ i) closed-parts;
     behind = λ j l. parts-high i row (row / 2 / 2 ^ i) closed-parts j (j - i) (omega arith) ∙ bit-from i (row / 2) (j - i) j (omega arith) ∙ sym (bit-high row j);
   }
-
--- a word tells which of eight marks are the one asked for
-pub record EightTell (mark : ℕ) (marks : List ℕ) (at word : ℕ) : Type 0 where
-  pub tells : (k : ℕ) → k < 8 → Tells (getD marks (at + k) 0 ≡ mark) (bit word (placeOf k))
-
-pub ones-tell : {marks : List ℕ} {at r : ℕ} → Eight marks at r → EightTell 1 marks at r
-ones-tell e = record { tells = e .ones }
-
-pub twos-tell : {marks : List ℕ} {at r : ℕ} → Eight marks at r → EightTell 2 marks at (r / 2)
-twos-tell {marks} {at} {r} e = record { tells = λ k l. rw (← bit-high r (placeOf k), ← add-one (placeOf k)) (e .twos k l) }
-
--- row i of a choice by the sixteen marks from its first on
-pub marked-row : {mark : ℕ} {marks : List ℕ} {n : Numbering} {i at first second bits row : ℕ} → n .count ≤ 16 → i < n .count → at ≡ rowIn n i →
-    EightTell mark marks at first → EightTell mark marks (at + 8) second → Sixteen first second bits → Opened (n .count) i bits row → Row (n .count) (MarkedIn mark marks n i) row
-marked-row {mark} {marks} {n} {i} {at} {first} {second} {bits} {row} few from start firsts seconds both o = record { fits = o .fits; tells = λ j h. told j h (le-or-lt i j) }
-  where
-    sixteen : (k : ℕ) → (8 ≤ k) ⊎ (k < 8) → k < 16 → Tells (getD marks (at + k) 0 ≡ mark) (bit bits k)
-    sixteen k (inr g) l = rw (both .low k g) (firsts .tells k g)
-    sixteen k (inl g) l =
-        let e : 8 + (k - 8) ≡ k = omega arith in
-        let f : at + 8 + (k - 8) ≡ at + k = omega arith in
-        rw (f, ← both .high (k - 8) (omega arith), e) at (seconds .tells (k - 8) (omega arith))
-
-    -- the mark at k is that of the replacement by the kind at j
-    placed : (j k : ℕ) → j < n .count → i ≢ j → replaceIn n i j ≡ rowIn n i + k → k < 16 → Tells (MarkedIn mark marks n i j) (bit bits k)
-    placed j k to apart e l =
-        let same : getD marks (replaceIn n i j) 0 ≡ getD marks (at + k) 0 = ap (λ (p : ℕ). getD marks p 0) (e ∙ ap (λ (p : ℕ). p + k) (sym start)) in
-        tells-as (λ h. record { can = record { from = from; to = to; apart = apart }; is = same ∙ h }) (λ m. sym same ∙ m .is) (bit bits k) (sixteen k (le-or-lt 8 k) l)
-
-    behind : (j : ℕ) → j < n .count → i < j → Tells (MarkedIn mark marks n i j) (bit row j)
-    behind zero h l = absurd (omega arith)
-    behind (suc j) h l = rw (o .behind j (omega arith) h) (placed (suc j) j h (λ e. omega arith) (row-behind n i j (omega arith)) (omega arith))
-
-    here : (j : ℕ) → j ≡ i → Tells (MarkedIn mark marks n i j) (bit row j)
-    here j e = rw (e, o .here) (λ m. m .can .apart refl)
-
-    told : (j : ℕ) → j < n .count → (i ≤ j) ⊎ (j < i) → Tells (MarkedIn mark marks n i j) (bit row j)
-    told j h (inr l) = rw (o .before j l) (placed j j h (λ e. omega arith) (row-before n i j l) (omega arith))
-    told j h (inl l) = elim (le-or-lt j i) [ inl g ↦ here j (omega arith) | inr g ↦ behind j h g ]

@@ -1,11 +1,11 @@
--- Reaching within a choice: it stays among the positions, more allowed reaches more, and a reached pair of different positions has a
--- privilege. Assumes nothing.
+-- Reaching within a choice: it stays among the positions, more allowed reaches more, and a reached pair has a privilege, if
+-- one of the same kind has. Assumes nothing.
 use Prim.Native.Nat.{ℕ, _<_}
-use mathlib.Core.Logic.{_≢_}
+use mathlib.Core.Path.{_≡_}
 use mathlib.Core.List.{List}
 use Rattle.table.specs.Plus.{last, next}
 use Rattle.table.specs.Rule.{IsChoice, countOf}
-use Rattle.table.specs.Privilege.{replaceOf, Replaceable}
+use Rattle.table.specs.Privilege.{replaceOf, SameKind, Replaceable}
 use Rattle.policy.specs.Reached.{Step, Reached}
 use Rattle.policy.proofs.Closures.{plus-map}
 
@@ -24,6 +24,6 @@ module _ {ws : List ℕ} {S R : ℕ → Type 0} (more : (p : ℕ) → S p → R 
   pub reached-mono : {x i j : ℕ} → Reached ws S x i j → Reached ws R x i j
   reached-mono r = plus-map step-mono r
 
--- a reached pair of different positions has a privilege
-pub reached-replaceable : {ws : List ℕ} {S : ℕ → Type 0} {x i j : ℕ} → IsChoice ws x → Reached ws S x i j → i ≢ j → Replaceable ws x i j
-reached-replaceable s r d = record { choice = s; from = reached-from r; to = reached-to r; apart = d }
+-- a reached pair has a privilege, if one of the same kind has
+pub reached-replaceable : {ws : List ℕ} {S : ℕ → Type 0} {x i j : ℕ} → IsChoice ws x → Reached ws S x i j → (i ≡ j → SameKind ws) → Replaceable ws x i j
+reached-replaceable s r d = record { choice = s; from = reached-from r; to = reached-to r; same-kind = d }

@@ -1,6 +1,6 @@
 -- Squares of 16 rows: written row by row, closed position by position, and what they tell. Assumes nothing.
 use Prim.Native.Nat.{ℕ, _+_, _≤_, _<_}
-use mathlib.Core.Path.{_≡_, refl, sym, ap, _∙_}
+use mathlib.Core.Path.{_≡_, refl, sym, _∙_}
 use mathlib.Core.Bool.{Bool, true, false, true≢false}
 use mathlib.Core.List.{List}
 use native.Mathlib.Numerals.{add-one}
@@ -11,15 +11,12 @@ use lib.Dec.{eqb}
 use lib.ListN.{length, getD, set, length-set}
 use lib.Seq.{getD-set-same, getD-set-other}
 use Rattle.table.specs.steps.Found.{Tells}
-use Rattle.table.specs.Words.{types}
-use Rattle.table.specs.Rule.{IsChoice, childrenAt}
-use Rattle.table.specs.Check.{Accepted}
-use Rattle.table.proofs.Facts.{facts}
+use Rattle.table.specs.Rule.{IsChoice}
 use Rattle.table.specs.Privilege.{privileges, replace}
 use Rattle.table.specs.steps.Numbering.{NumberedAs}
 use Rattle.table.specs.declared.privilege.Numbering.{Numbering}
 use Rattle.table.proofs.Lowest.{told-yes, tells-as, tells-by}
-use Rattle.table.proofs.Privileges.{edit-below, replaceable-in, in-replaceable, replace-in}
+use Rattle.table.proofs.Privileges.{numbered-small, edit-below, replaceable-in, in-replaceable, replace-in}
 use Rattle.policy.specs.Marks.{Allowed, Policy}
 use Rattle.table.specs.Plus.{Plus}
 use Rattle.policy.specs.Reached.{Step}
@@ -91,13 +88,9 @@ module _ {ws : List ℕ} {x : ℕ} {n : Numbering} (h : NumberedAs ws x n) (c : 
   pub step-into : (i j : ℕ) → Step ws (Allowed marks) x i j → StepIn marks n i j
   step-into i j s = record { can = replaceable-in h (s .can); is = rw (replace-in h i j) (s .allowed) }
 
--- a choice's children are as many as its numbering says
-pub kids-here : {ws kids : List ℕ} {x : ℕ} {n : Numbering} → Accepted ws → x < types ws → kids ≡ childrenAt ws x → NumberedAs ws x n → length kids ≡ n .count
-kids-here {x = x} good type kids h = ap length kids ∙ facts good .children-here x type ∙ sym (h .count)
-
 pub room-of : {ws out : List ℕ} {x : ℕ} {n : Numbering} → privileges ws ≤ length out → IsChoice ws x → NumberedAs ws x n → Room n out
 room-of {ws} {x = x} enough choice h = record {
-  small = record { low = h .low; few = h .few };
+  small = numbered-small h;
   room = λ i j can. rw (replace-in h i j) (omega (arith, enough, edit-below ws (replace x i j) (in-replaceable h choice can)));
 }
 

@@ -10,15 +10,15 @@ use lib.Dec.{eqb}
 use lib.ListN.{length, getD, set, length-set}
 use lib.Seq.{getD-set-same, getD-set-other}
 use Rattle.table.specs.steps.Found.{Tells}
-use Rattle.table.specs.steps.Numbering.{replaceIn, rowIn, ReplaceableIn}
+use Rattle.table.specs.steps.Numbering.{Small, replaceIn, widthIn, rowIn, missingIn, ReplaceableIn}
 use Rattle.table.specs.declared.privilege.Numbering.{Numbering}
 use Rattle.table.proofs.Lists.{le-or-lt}
 use Rattle.table.proofs.Lowest.{tells-eq}
-use Rattle.table.proofs.Privileges.{row-before, row-behind, replace-in-one}
+use Rattle.table.proofs.Privileges.{row-before, row-behind, replaceable-missing, replace-in-one}
 use Rattle.policy.specs.steps.Squares.{bit, marked}
-use Rattle.policy.specs.steps.Squares.{Room}
 use Rattle.policy.specs.steps.Packed.{Closed}
 use Rattle.policy.proofs.Bits.{bit-from}
+use Rattle.policy.proofs.RowMarks.{row-kind}
 use Rattle.policy.specs.steps.Writing.{Decision, allow, forbid, decision, RowWritten, ChoiceWritten, RangeWritten}
 
 -- what a flag tells, decided
@@ -100,45 +100,40 @@ range-join {P} {a} {b} {c} {d} {old} {new} {newer} s t ac cb bd = record {
     go p l h (inl k) = t .within p k h
     go p l h (inr k) = rw (t .rest p (inl k)) (s .within p l (omega arith))
 
--- the replacements of a child stand side by side: each place of its row is that of one
-row-kind : (n : Numbering) (i k : ℕ) → i < n .count → k < n .count - 1 → (j : ℕ) × ReplaceableIn n i j × (replaceIn n i j ≡ rowIn n i + k)
-row-kind n i k h l = elim (le-or-lt i k) [
-  | inl g ↦ (suc k, record { from = h; to = omega arith; apart = λ q. omega arith }, row-behind n i k g)
-  | inr g ↦ (k, record { from = h; to = omega arith; apart = λ q. omega arith }, row-before n i k g)
-]
-
--- the row has room
-pub row-room : {n : Numbering} {i : ℕ} {out : List ℕ} → Room n out → i < n .count → 2 ≤ n .count → rowIn n i + (n .count - 1) ≤ length out
-row-room {n} {i} r h two = let last = row-kind n i (n .count - 2) h (omega arith) in omega (arith, last .2, r .room i (last .0) (last .1))
-
 -- a row of the square, written with its gap closed
-range-row : {n : Numbering} {square : List ℕ} {i bits : ℕ} {old new : List ℕ} → i < n .count → Closed i (getD square i 0) bits → BitsWritten bits (rowIn n i) (n .count - 1) old new → RowWritten n square i old new
-range-row {n} {square} {i} {bits} {old} {new} h closed s = record { size = s .size; row = λ j r. by j r (le-or-lt i j); rest = λ p f. s .rest p (out p f (le-or-lt (rowIn n i) p)) }
+pub range-row : {n : Numbering} {square : List ℕ} {i from bits : ℕ} {old new : List ℕ} → Small n → i < n .count → from ≡ rowIn n i → Closed (missingIn n i) (getD square i 0) bits
+    → BitsWritten bits from (widthIn n) old new → RowWritten n square i old new
+range-row {n} {square} {i} {from} {bits} {old} {new} small h start closed wrote = record { size = s .size; row = λ j r. by j r (le-or-lt (missingIn n i) j); rest = λ p f. s .rest p (out p f (le-or-lt (rowIn n i) p)) }
   where
-    placed : (j k : ℕ) → replaceIn n i j ≡ rowIn n i + k → k < n .count - 1 → bit bits k ≡ marked square i j → Decision (marked square i j ≡ true) (getD new (replaceIn n i j) 0)
+    s : BitsWritten bits (rowIn n i) (widthIn n) old new
+    s = rw start at wrote
+
+    placed : (j k : ℕ) → replaceIn n i j ≡ rowIn n i + k → k < widthIn n → bit bits k ≡ marked square i j → Decision (marked square i j ≡ true) (getD new (replaceIn n i j) 0)
     placed j k e l b =
         let gone : rowIn n i + k - rowIn n i ≡ k = omega arith in
         rw e (rw (gone, b) at (s .within (rowIn n i + k) (omega arith) (omega arith)))
 
-    by : (j : ℕ) → ReplaceableIn n i j → (i ≤ j) ⊎ (j < i) → Decision (marked square i j ≡ true) (getD new (replaceIn n i j) 0)
-    by j r (inr l) = placed j j (row-before n i j l) (omega arith) (closed .before j l)
-    by zero r (inl l) = absurd (r .apart (omega arith))
-    by (suc j) r (inl l) = let g : i ≤ j = omega (arith, r .apart) in placed (suc j) j (row-behind n i j g) (omega (arith, r .to)) (closed .behind j g)
+    by : (j : ℕ) → ReplaceableIn n i j → (missingIn n i ≤ j) ⊎ (j < missingIn n i) → Decision (marked square i j ≡ true) (getD new (replaceIn n i j) 0)
+    by j r (inr l) = placed j j (row-before n i j (small .narrow) l) (omega (arith, small .narrow, r .to)) (closed .before j l)
+    by zero r (inl l) = absurd (replaceable-missing small r (omega arith))
+    by (suc j) r (inl l) =
+        let g : missingIn n i ≤ j = omega (arith, replaceable-missing small r) in
+        placed (suc j) j (row-behind n i j small g (r .to)) (omega (arith, small .narrow, r .to)) (closed .behind j g)
 
-    out : (p : ℕ) → ((j : ℕ) → ReplaceableIn n i j → p ≢ replaceIn n i j) → (rowIn n i ≤ p) ⊎ (p < rowIn n i) → (p < rowIn n i) ⊎ (rowIn n i + (n .count - 1) ≤ p)
+    out : (p : ℕ) → ((j : ℕ) → ReplaceableIn n i j → p ≢ replaceIn n i j) → (rowIn n i ≤ p) ⊎ (p < rowIn n i) → (p < rowIn n i) ⊎ (rowIn n i + widthIn n ≤ p)
     out p f (inr l) = inl l
-    out p f (inl l) = elim (le-or-lt (rowIn n i + (n .count - 1)) p) [
+    out p f (inl l) = elim (le-or-lt (rowIn n i + widthIn n) p) [
       | inl k ↦ inr k
-      | inr k ↦ let kind = row-kind n i (p - rowIn n i) h (omega arith) in absurd (f (kind .0) (kind .1) (omega (arith, kind .2)))
+      | inr k ↦ let kind = row-kind n i (p - rowIn n i) small h (omega arith) in absurd (f (kind .0) (kind .1) (omega (arith, kind .2)))
     ]
 
 -- the first eight and the last eight of a row that has eight or more
-pub row-eights : {n : Numbering} {square : List ℕ} {i from bits : ℕ} {old new newer : List ℕ} → i < n .count → 9 ≤ n .count → n .count ≤ 16 → from ≡ rowIn n i → Closed i (getD square i 0) bits →
-    BitsWritten bits from 8 old new → BitsWritten (bits / 2 ^ (n .count - 9)) (from + (n .count - 9)) 8 new newer → RowWritten n square i old newer
-row-eights {n} {square} {i} {from} {bits} {old} {new} {newer} h some few e closed s t = range-row h closed (rw (e, whole) at both)
+pub row-eights : {n : Numbering} {square : List ℕ} {i from bits : ℕ} {old new newer : List ℕ} → Small n → i < n .count → 8 ≤ widthIn n → from ≡ rowIn n i → Closed (missingIn n i) (getD square i 0) bits →
+    BitsWritten bits from 8 old new → BitsWritten (bits / 2 ^ (widthIn n - 8)) (from + (widthIn n - 8)) 8 new newer → RowWritten n square i old newer
+row-eights {n} {square} {i} {from} {bits} {old} {new} {newer} small h some e closed s t = range-row small h e closed (rw whole at both)
   where
     m : ℕ
-    m = n .count - 9
+    m = widthIn n - 8
 
     reads : (p : ℕ) → from + m ≤ p → bit (bits / 2 ^ m) (p - (from + m)) ≡ bit bits (p - from)
     reads p l = bit-from m bits (p - (from + m)) (p - from) (omega arith)
@@ -146,89 +141,33 @@ row-eights {n} {square} {i} {from} {bits} {old} {new} {newer} h some few e close
     both : RangeWritten (λ p. bit bits (p - from) ≡ true) from (from + m + 8) old newer
     both = range-join s (range-as (λ p l. (λ q. sym (reads p l) ∙ q, λ q. reads p l ∙ q)) t) (omega arith) (omega arith) (omega arith)
 
-    whole : rowIn n i + m + 8 ≡ rowIn n i + (n .count - 1)
-    whole = omega arith
+    whole : from + m + 8 ≡ from + widthIn n
+    whole = omega (arith, small .few)
 
--- the replacements of some pairs are decided by the square, and the rest is as it was
-pub record Pairs (n : Numbering) (square : List ℕ) (W : ℕ → ℕ → Type 0) (old new : List ℕ) : Type 0 where
+-- the replacements of the rows before i are decided by the square, and the rest is as it was
+pub record RowsWritten (n : Numbering) (square : List ℕ) (i : ℕ) (old new : List ℕ) : Type 0 where
   pub size : length new ≡ length old
-  pub done : (a b : ℕ) → W a b → ReplaceableIn n a b → Decision (marked square a b ≡ true) (getD new (replaceIn n a b) 0)
-  pub rest : (p : ℕ) → ((a b : ℕ) → W a b → ReplaceableIn n a b → p ≢ replaceIn n a b) → getD new p 0 ≡ getD old p 0
+  pub done : (a b : ℕ) → a < i → ReplaceableIn n a b → Decision (marked square a b ≡ true) (getD new (replaceIn n a b) 0)
+  pub rest : (p : ℕ) → ((a b : ℕ) → a < i → ReplaceableIn n a b → p ≢ replaceIn n a b) → getD new p 0 ≡ getD old p 0
 
 module _ {n : Numbering} {square : List ℕ} where
-  -- no pair that has a privilege
-  pub pairs-none : {W : ℕ → ℕ → Type 0} {old : List ℕ} → ((a b : ℕ) → W a b → ¬ ReplaceableIn n a b) → Pairs n square W old old
-  pairs-none d = record { size = refl; done = λ a b w r. absurd (d a b w r); rest = λ p f. refl }
+  pub rows-none : {old : List ℕ} → RowsWritten n square 0 old old
+  rows-none = record { size = refl; done = λ a b l r. absurd (omega arith); rest = λ p f. refl }
 
-  -- one pair
-  pub pairs-one : {i j v : ℕ} {old : List ℕ} → ReplaceableIn n i j → replaceIn n i j < length old → Decision (marked square i j ≡ true) v
-      → Pairs n square (λ a b. (a ≡ i) × (b ≡ j)) old (set old (replaceIn n i j) v)
-  pairs-one {i} {j} {v} {old} r l d = record {
-    size = length-set old (replaceIn n i j) v;
-    done = λ a b w o. rw (w .0, w .1, getD-set-same old (replaceIn n i j) v 0 l) d;
-    rest = λ p f. getD-set-other old (replaceIn n i j) p v 0 (f i j (refl, refl) r);
-  }
-
-  -- some pairs, and then others
-  pairs-join : {U W X : ℕ → ℕ → Type 0} {old new newer : List ℕ} → Pairs n square U old new → Pairs n square W new newer
-      → ((a b : ℕ) → X a b → W a b ⊎ (U a b × ¬ W a b)) → ((a b : ℕ) → U a b ⊎ W a b → X a b) → Pairs n square X old newer
-  pairs-join {U} {W} {X} {old} {new} {newer} s t out into = record {
-    size = t .size ∙ s .size;
-    done = λ a b v r. go a b r (out a b v);
-    rest = λ p f. t .rest p (λ a b w. f a b (into a b (inr w))) ∙ s .rest p (λ a b u. f a b (into a b (inl u)));
+  pub rows-more : n .gap ≤ 1 → {i : ℕ} {old new newer : List ℕ} → RowsWritten n square i old new → RowWritten n square i new newer → RowsWritten n square (i + 1) old newer
+  rows-more narrow {i} {old} {new} {newer} s r = record {
+    size = r .size ∙ s .size;
+    done = λ a b l o. go a b l o (ℕ-discrete a i);
+    rest = λ p f. r .rest p (λ b. f i b (omega arith)) ∙ s .rest p (λ a b l. f a b (omega arith));
   }
     where
-      go : (a b : ℕ) → ReplaceableIn n a b → W a b ⊎ (U a b × ¬ W a b) → Decision (marked square a b ≡ true) (getD newer (replaceIn n a b) 0)
-      go a b r (inl w) = t .done a b w r
-      go a b r (inr (u, d)) = rw (t .rest (replaceIn n a b) apart) (s .done a b u r)
-        where
-          apart : (e f : ℕ) → W e f → ReplaceableIn n e f → replaceIn n a b ≢ replaceIn n e f
-          apart e f w o q = let z = replace-in-one n a b e f r o q in d (rw (z .0, z .1) w)
+      go : (a b : ℕ) → a < i + 1 → ReplaceableIn n a b → Dec (a ≡ i) → Decision (marked square a b ≡ true) (getD newer (replaceIn n a b) 0)
+      go a b l o (yes e) = rw e (r .row b (rw e at o))
+      go a b l o (no d) = rw (r .rest (replaceIn n a b) (λ c u q. d (replace-in-one n a b i c narrow o u q .0))) (s .done a b (omega arith) o)
 
--- row i up to column j, and all rows up to i
-abbrev pub RowPairs : Numbering → List ℕ → ℕ → ℕ → List ℕ → List ℕ → Type 0
-RowPairs n square i j old new = Pairs n square (λ a b. (a ≡ i) × (b < j)) old new
-
-abbrev pub RowsPairs : Numbering → List ℕ → ℕ → List ℕ → List ℕ → Type 0
-RowsPairs n square i old new = Pairs n square (λ a b. a < i) old new
-
-module _ {n : Numbering} {square : List ℕ} {i : ℕ} {old new : List ℕ} where
-  pub row-more : {j : ℕ} {newer : List ℕ} → RowPairs n square i j old new → Pairs n square (λ a b. (a ≡ i) × (b ≡ j)) new newer
-      → RowPairs n square i (j + 1) old newer
-  row-more {j} s t = pairs-join s t (λ a b w. out a b w (ℕ-discrete b j)) into
-    where
-      out : (a b : ℕ) → (a ≡ i) × (b < j + 1) → Dec (b ≡ j) → ((a ≡ i) × (b ≡ j)) ⊎ (((a ≡ i) × (b < j)) × ¬ ((a ≡ i) × (b ≡ j)))
-      out a b w (yes e) = inl (w .0, e)
-      out a b w (no d) = inr ((w .0, omega (arith, w .1)), λ z. d (z .1))
-
-      into : (a b : ℕ) → ((a ≡ i) × (b < j)) ⊎ ((a ≡ i) × (b ≡ j)) → (a ≡ i) × (b < j + 1)
-      into a b (inl w) = (w .0, omega (arith, w .1))
-      into a b (inr w) = (w .0, omega (arith, w .1))
-
-  pub row-all : {j : ℕ} → RowPairs n square i j old new → n .count ≤ j → RowWritten n square i old new
-  row-all {j} s h = record {
-    size = s .size;
-    row = λ b r. s .done i b (refl, omega (arith, r .to)) r;
-    rest = λ p f. s .rest p (λ a b w r. rw (w .0) (f b (rw (w .0) at r)));
-  }
-
-  pub rows-more : {newer : List ℕ} → RowsPairs n square i old new → RowWritten n square i new newer → RowsPairs n square (i + 1) old newer
-  rows-more {newer} s r = pairs-join s row (λ a b w. out a w (ℕ-discrete a i)) into
-    where
-      row : Pairs n square (λ a b. a ≡ i) new newer
-      row = record { size = r .size; done = λ a b w o. rw w (r .row b (rw w at o)); rest = λ p f. r .rest p (λ b. f i b refl) }
-
-      out : (a : ℕ) → a < i + 1 → Dec (a ≡ i) → (a ≡ i) ⊎ ((a < i) × (a ≢ i))
-      out a w (yes e) = inl e
-      out a w (no d) = inr (omega arith, d)
-
-      into : (a b : ℕ) → (a < i) ⊎ (a ≡ i) → a < i + 1
-      into a b (inl w) = omega arith
-      into a b (inr w) = omega arith
-
-  pub rows-all : RowsPairs n square i old new → n .count ≤ i → ChoiceWritten n square old new
+  pub rows-all : {i : ℕ} {old new : List ℕ} → RowsWritten n square i old new → n .count ≤ i → ChoiceWritten n square old new
   rows-all s h = record {
     size = s .size;
     all = λ a b r. s .done a b (omega (arith, r .from)) r;
-    rest = λ p f. s .rest p (λ a b w. f a b);
+    rest = λ p f. s .rest p (λ a b l. f a b);
   }

@@ -3,3 +3,4 @@ pub mod Checking
 pub mod Squares
 pub mod Packed
 pub mod Writing
+pub mod Renewing

@@ -53,20 +53,21 @@ pub(crate) fn sixteen(first: u64, second: u64) -> u64
     gathered(first) + 256 * gathered(second)
 }
 
-// Opens a gap at position i of a row of n: twice the bits puts each one place up, and those before i are taken back.
-pub(crate) fn with_gap(bits: u64, n: usize, i: usize) -> u16
-    requires { ⌜ (i < n) × (n ≤ 16) ⌝ }
-    ensures { λ r. ⌜ Opened n i bits r ⌝ }
+// Opens a gap at position i of a row, whose own are the first bits: those from i on once more puts each one place up. Past the row's own there are none.
+pub(crate) fn with_gap(bits: u64, width: usize, i: usize) -> u16
+    requires { ⌜ (width ≤ 16) × (i < 32) × (i < 16 → width < 16) ⌝ }
+    ensures { λ r. ⌜ Opened width i bits r ⌝ }
 {
-    let own = bits % (1 << (n - 1));
-    (2 * own - own % (1 << i)) as u16
+    let own = bits % (1 << width);
+    (own + (own - own % (1 << i))) as u16
 }
 
 // Closes the gap at position i.
 pub(crate) fn without_gap(row: u16, i: usize) -> u16
-    requires { ⌜ i < 16 ⌝ }
+    requires { ⌜ i < 32 ⌝ }
     ensures { λ r. ⌜ Closed i row r ⌝ }
 {
-    let half = row / 2;
-    row % (1 << i) + (half - half % (1 << i))
+    let whole = row as u32;
+    let half = whole / 2;
+    (whole % (1 << i) + (half - half % (1 << i))) as u16
 }

@@ -1,14 +1,13 @@
 // Reaching within a choice: the closure of the allowed replacements. Contracts cite specs/Reached, and specs/steps/Squares for the rows.
-ghost use mathlib.Core.Path.{_≡_};
 ghost use Prim.Native.Nat.{_≤_};
 ghost use Rattle.table.specs.Plus.{Plus};
-ghost use Rattle.table.specs.Rule.{IsChoice, countOf, childrenAt};
+ghost use Rattle.table.specs.Rule.{IsChoice, countOf};
 ghost use Rattle.table.specs.steps.Numbering.{NumberedAs};
 ghost use Rattle.policy.specs.Marks.{Allowed, Policy};
 ghost use Rattle.policy.specs.Reached.{Reached};
 ghost use Rattle.policy.specs.steps.Squares.{Marked, Square, StepIn};
+use super::rows::allowed_rows;
 use super::rows::join;
-use super::rows::read_rows;
 use table::privilege::Numbering;
 
 // One or more steps of the rows, between the first n positions.
@@ -39,13 +38,10 @@ pub fn reached_by(
     close(steps, n.count)
 }
 
-// What is reached from what at the choice x of a policy, by its children and its numbering.
-pub fn reached(words: &[u16], marks: &[u8], x: usize, kids: &[u16], n: Numbering) -> [u16; 16]
-    requires { ⌜ Policy (now words) (now marks) × IsChoice (now words) x × (now kids ≡ childrenAt (now words) x) × NumberedAs (now words) x n ⌝ }
+// What is reached from what at the choice x of a policy, by its numbering.
+pub fn reached(words: &[u16], marks: &[u8], x: usize, n: Numbering) -> [u16; 16]
+    requires { ⌜ Policy (now words) (now marks) × IsChoice (now words) x × NumberedAs (now words) x n ⌝ }
     ensures { λ r. ⌜ Square (countOf (now (words .entry)) x) (Reached (now (words .entry)) (Allowed (now (marks .entry))) x) r ⌝ }
 {
-    let mut allowed = [0u16; 16];
-    let mut forbidden = [0u16; 16];
-    read_rows(kids, marks, n, &mut allowed, &mut forbidden);
-    reached_by(words, marks, x, n, allowed)
+    reached_by(words, marks, x, n, allowed_rows(marks, n))
 }

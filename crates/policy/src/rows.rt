@@ -1,59 +1,61 @@
 // A relation on the positions of a choice as 16 rows of 16 bits: read of its marks, asked, changed and joined. Only this crate looks into a
 // row's bits. Contracts cite specs/steps/Squares.
 ghost use mathlib.Core.Path.{_≡_};
-ghost use Prim.Native.Nat.{_+_, _≤_, _<_};
+ghost use Prim.Native.Nat.{ℕ, _+_, _≤_, _<_};
 ghost use lib.ListN.{length};
+ghost use Rattle.table.specs.steps.Found.{Tells};
 ghost use Rattle.table.specs.steps.Numbering.{rowIn};
-ghost use Rattle.policy.specs.steps.Squares.{bit, marked, MarkIn, Flags, Room, Readable, RowRead, Read, Unshared, RowJoined, Joined, Toggled};
+ghost use Rattle.policy.specs.Marks.{Legal};
+ghost use Rattle.policy.specs.steps.Squares.{bit, marked, Square, StepIn, Flags, Room, Readable, AskedAt, RowRead, Read, Unshared, RowJoined, Joined, Toggled};
+ghost use Rattle.policy.specs.steps.Packed.{Flagged};
 use super::packed::eight;
 use super::packed::sixteen;
 use super::packed::with_gap;
 use table::privilege::Numbering;
-use table::privilege::is_replaceable;
-use table::privilege::replacement;
+use table::privilege::missing;
 use table::privilege::row_at;
+use table::privilege::width;
 use table::words::lesser;
 
-// The mark of the replacement of i by j; 0 where there is none.
-fn mark_of(marks: &[u8], n: Numbering, i: usize, j: usize) -> u8
-    requires { ⌜ Room n (now marks) ⌝ }
-    ensures { λ r. ⌜ MarkIn (now (marks .entry)) n i j r ⌝ }
-{
-    if !is_replaceable(n, i, j) {
-        return 0;
-    }
-    marks[replacement(n, i, j)]
-}
-
 // 1 if the mark is the one asked for, else 0.
-fn flag(mark: u8, asked: u8) -> u16
+fn flag(mark: u8, asked: u8) -> u64
     ensures { λ r. ⌜ Flags (mark ≡ asked) r ⌝ }
 {
     if mark == asked { 1 } else { 0 }
 }
 
-// Reads row i mark by mark: what is allowed, and what is forbidden.
+// Some marks from a place on, one by one: the lower sixteen bits tell which are 1, and the upper ones which are 2.
+fn flags_of(marks: &[u8], at: usize, size: usize) -> u64
+    requires { ⌜ (size ≤ 16) × (0 < size → at + size ≤ length (now marks)) ⌝ }
+    ensures { λ r. ⌜ Flagged (now (marks .entry)) at size r ⌝ }
+{
+    let mut flags: u64 = 0;
+    let mut k = size;
+    while 0 < k {
+        k -= 1;
+        let mark = marks[at + k];
+        flags = 2 * flags + (flag(mark, 1) + 65536 * flag(mark, 2));
+    }
+    flags
+}
+
+// Reads row i, whose first mark is given, mark by mark.
 fn read_each(
     marks: &[u8],
     n: Numbering,
     i: usize,
+    at: usize,
     allowed: &mut [u16; 16],
     forbidden: &mut [u16; 16],
 )
-    requires { ⌜ Room n (now marks) × (i < 16) × (length (now allowed) ≡ 16) × (length (now forbidden) ≡ 16) ⌝ }
+    requires { ⌜ Room n (now marks) × (i < n .count) × (at ≡ rowIn n i) × (length (now allowed) ≡ 16) × (length (now forbidden) ≡ 16) ⌝ }
     ensures { λ _. ⌜ RowRead (now (marks .entry)) n i (now (allowed .entry)) (now (forbidden .entry)) (now (allowed .exit)) (now (forbidden .exit)) ⌝ }
 {
-    let mut steps: u16 = 0;
-    let mut bans: u16 = 0;
-    let mut j = n.count;
-    while 0 < j {
-        j -= 1;
-        let mark = mark_of(marks, n, i, j);
-        steps = 2 * steps + flag(mark, 1);
-        bans = 2 * bans + flag(mark, 2);
-    }
-    allowed[i] = steps;
-    forbidden[i] = bans;
+    let own = width(n);
+    let gap = missing(n, i);
+    let flags = flags_of(marks, at, own);
+    allowed[i] = with_gap(flags, own, gap);
+    forbidden[i] = with_gap(flags / 65536, own, gap);
 }
 
 // Reads row i, whose first mark is given, sixteen marks at once.
@@ -68,11 +70,12 @@ fn read_at_once(
     requires { ⌜ Readable n (now marks) × (i < n .count) × (at ≡ rowIn n i) × (at + 16 ≤ length (now marks)) × (length (now allowed) ≡ 16) × (length (now forbidden) ≡ 16) ⌝ }
     ensures { λ _. ⌜ RowRead (now (marks .entry)) n i (now (allowed .entry)) (now (forbidden .entry)) (now (allowed .exit)) (now (forbidden .exit)) ⌝ }
 {
-    let count = n.count;
+    let own = width(n);
+    let gap = missing(n, i);
     let first = eight(marks, at);
     let second = eight(marks, at + 8);
-    allowed[i] = with_gap(sixteen(first, second), count, i);
-    forbidden[i] = with_gap(sixteen(first / 2, second / 2), count, i);
+    allowed[i] = with_gap(sixteen(first, second), own, gap);
+    forbidden[i] = with_gap(sixteen(first / 2, second / 2), own, gap);
 }
 
 // Reads row i: at once where sixteen marks are left.
@@ -90,26 +93,49 @@ fn read_row(
     if at + 16 <= marks.len() {
         read_at_once(marks, n, i, at, allowed, forbidden);
     } else {
-        read_each(marks, n, i, allowed, forbidden);
+        read_each(marks, n, i, at, allowed, forbidden);
     }
 }
 
-// Reads the marks of a choice by its children and its numbering.
-pub fn read_rows(
-    kids: &[u16],
-    marks: &[u8],
-    n: Numbering,
-    allowed: &mut [u16; 16],
-    forbidden: &mut [u16; 16],
-)
-    requires { ⌜ Readable n (now marks) × (length (now kids) ≡ n .count) × (length (now allowed) ≡ 16) × (length (now forbidden) ≡ 16) ⌝ }
+// Reads the marks of a choice by its numbering.
+pub fn read_rows(marks: &[u8], n: Numbering, allowed: &mut [u16; 16], forbidden: &mut [u16; 16])
+    requires { ⌜ Readable n (now marks) × (length (now allowed) ≡ 16) × (length (now forbidden) ≡ 16) ⌝ }
     ensures { λ _. ⌜ Read (now (marks .entry)) n (now (allowed .exit)) (now (forbidden .exit)) ⌝ }
 {
+    let count = n.count;
     let mut i = 0;
-    while i < kids.len() {
+    while i < count {
         read_row(marks, n, i, allowed, forbidden);
         i += 1;
     }
+}
+
+// Which of some marks from a place on are 1: at once where sixteen marks are left.
+fn ones(marks: &[u8], at: usize, size: usize) -> u64
+    requires { ⌜ (at < 8192) × (size ≤ 16) × (0 < size → at + size ≤ length (now marks)) × ((p : ℕ) → p < length (now marks) → Legal (now marks) p) ⌝ }
+    ensures { λ r. ⌜ ((k : ℕ) → k < size → Tells (AskedAt (now (marks .entry)) at 1 k) (bit r k)) ⌝ }
+{
+    if at + 16 <= marks.len() {
+        return sixteen(eight(marks, at), eight(marks, at + 8));
+    }
+    flags_of(marks, at, size)
+}
+
+// What is allowed at a choice, by its numbering.
+pub fn allowed_rows(marks: &[u8], n: Numbering) -> [u16; 16]
+    requires { ⌜ Readable n (now marks) ⌝ }
+    ensures { λ r. ⌜ Square (n .count) (StepIn (now (marks .entry)) n) r ⌝ }
+{
+    let count = n.count;
+    let mut rows = [0u16; 16];
+    let mut i = 0;
+    while i < count {
+        let own = width(n);
+        let bits = ones(marks, row_at(n, i), own);
+        rows[i] = with_gap(bits, own, missing(n, i));
+        i += 1;
+    }
+    rows
 }
 
 // Is bit j of the row 1?
@@ -133,7 +159,11 @@ pub fn first_shared(rows: &[u16; 16], others: &[u16; 16], i: usize, count: usize
     requires { ⌜ i < 16 ⌝ }
     ensures { λ r. ⌜ Unshared (now (rows .entry)) (now (others .entry)) i count r ⌝ }
 {
-    lesser(u16::trailing_zeros(rows[i] & others[i]) as usize, count)
+    let shared = rows[i] & others[i];
+    if shared == 0 {
+        return count;
+    }
+    lesser(u16::trailing_zeros(shared) as usize, count)
 }
 
 // Makes the bit at k of row i the other one.

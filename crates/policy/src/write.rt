@@ -7,11 +7,10 @@ ghost use Rattle.policy.specs.steps.Squares.{bit, Room};
 ghost use Rattle.policy.specs.steps.Writing.{decision, RangeWritten, RowWritten, ChoiceWritten};
 use super::packed::without_gap;
 use super::rows::has;
-use super::rows::leads;
 use table::privilege::Numbering;
-use table::privilege::is_replaceable;
-use table::privilege::replacement;
+use table::privilege::missing;
 use table::privilege::row_at;
+use table::privilege::width;
 
 // Allowed or forbidden.
 pub fn decided(allowed: bool) -> u8
@@ -20,28 +19,13 @@ pub fn decided(allowed: bool) -> u8
     if allowed { 1 } else { 2 }
 }
 
-// Decides the replacements of the child at i one by one: those to which the square leads are allowed.
-fn write_each(out: &mut [u8], square: &[u16; 16], n: Numbering, i: usize)
-    requires { ⌜ Room n (now out) × (i < 16) ⌝ }
-    ensures { λ _. ⌜ RowWritten n (now (square .entry)) i (now (out .entry)) (now (out .exit)) ⌝ }
-{
-    let count = n.count;
-    let mut j = 0;
-    while j < count {
-        if is_replaceable(n, i, j) {
-            out[replacement(n, i, j)] = decided(leads(square, i, j));
-        }
-        j += 1;
-    }
-}
-
-// Decides eight marks from a place on by the lowest bits of a row. The compiler writes them at once.
-fn write_eight(out: &mut [u8], at: usize, bits: u16)
-    requires { ⌜ at + 8 ≤ length (now out) ⌝ }
-    ensures { λ _. ⌜ RangeWritten (λ p. bit bits (p - at) ≡ true) at (at + 8) (now (out .entry)) (now (out .exit)) ⌝ }
+// Decides some marks from a place on by the lowest bits of a row. Where there are eight the compiler writes them at once.
+fn write_bits(out: &mut [u8], at: usize, bits: u16, size: usize)
+    requires { ⌜ (size ≤ 16) × (0 < size → at + size ≤ length (now out)) ⌝ }
+    ensures { λ _. ⌜ RangeWritten (λ p. bit bits (p - at) ≡ true) at (at + size) (now (out .entry)) (now (out .exit)) ⌝ }
 {
     let mut k = 0;
-    while k < 8 {
+    while k < size {
         out[at + k] = decided(has(bits, k));
         k += 1;
     }
@@ -52,16 +36,16 @@ fn write_row(out: &mut [u8], square: &[u16; 16], n: Numbering, i: usize)
     requires { ⌜ Room n (now out) × (i < n .count) ⌝ }
     ensures { λ _. ⌜ RowWritten n (now (square .entry)) i (now (out .entry)) (now (out .exit)) ⌝ }
 {
-    let count = n.count;
-    if count < 9 {
-        write_each(out, square, n, i);
+    let own = width(n);
+    let at = row_at(n, i);
+    let bits = without_gap(square[i], missing(n, i));
+    if own < 8 {
+        write_bits(out, at, bits, own);
         return;
     }
-    let at = row_at(n, i);
-    let bits = without_gap(square[i], i);
-    let last = count - 9;
-    write_eight(out, at, bits);
-    write_eight(out, at + last, bits >> last);
+    let last = own - 8;
+    write_bits(out, at, bits, 8);
+    write_bits(out, at + last, bits >> last, 8);
 }
 
 // Decides the replacements of a choice.

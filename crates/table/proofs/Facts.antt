@@ -10,7 +10,7 @@ use Rattle.table.specs.steps.Reading.{HasRecord, HasChildren}
 use Rattle.table.specs.Rule.{ruleOf, ruleAt, kindIn, countOf, childrenAt, childAt, IsChoice, IsStar, Child}
 use Rattle.table.specs.Privilege.{privileges}
 use Rattle.table.specs.Check.{RightCount, Accepted}
-use Rattle.table.specs.declared.check.Check.the-variants.{Kind, Count, Bounds, Twice, Cycle, Unreached, Total}
+use Rattle.table.specs.declared.check.Check.the-variants.{Format, Kind, Count, Bounds, Twice, Cycle, Unreached, Total}
 use Rattle.table.proofs.Lists.{le-or-lt}
 use Rattle.table.specs.Below.{OffCycle, FromRoot}
 use Rattle.table.specs.steps.Childed.{Tiled, Childed}
@@ -60,7 +60,10 @@ module _ {ws : List ℕ} (a : Accepted ws) where
   tiled-all : Tiled ws
   tiled-all = accepted-childed .tiled
 
-  -- a type's record and its children stand in the run
+  -- the word with the format, a type's record and its children stand in the run
+  pub has-format : 0 < length ws
+  has-format = omega (arith, a .passes Format 0 (omega arith) .long)
+
   pub has-record : {x : ℕ} → x < types ws → HasRecord ws x
   has-record l = laid-record (tiled-all .laid) l
 

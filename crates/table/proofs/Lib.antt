@@ -4,6 +4,7 @@ pub mod Lists
 pub mod Sum
 pub mod Rules
 pub mod Privileges
+pub mod Formats
 pub mod Checks
 pub mod Children
 pub mod Belows

@@ -7,7 +7,7 @@ use native.Mathlib.Omega.{arith}
 use lib.ListN.{length, getD, take, drop, length-append, length-map}
 use lib.Seq.{getD-take, getD-drop, drop-append-add}
 use Rattle.table.specs.Sum.{sumBelow}
-use Rattle.table.specs.Words.{types, root, entries, kindAt, countAt, firstAt, running}
+use Rattle.table.specs.Words.{formatOf, types, root, entries, kindAt, countAt, firstAt, running}
 use Rattle.table.specs.Rule.{childrenAt}
 use Rattle.table.specs.Below.{FromRoot}
 use Rattle.table.specs.Privilege.{privileges}
@@ -56,7 +56,7 @@ module _ {f g : ℕ → ℕ} {ws : List ℕ} (c : Childed ws) (p : Permutes (typ
   unfolding renumber
   root-now = refl
 
-  format-now : getD vs 0 0 ≡ getD ws 0 0
+  format-now : formatOf vs ≡ formatOf ws
   unfolding renumber
   format-now = refl
 
@@ -95,6 +95,7 @@ module _ {f g : ℕ → ℕ} {ws : List ℕ} (c : Childed ws) (p : Permutes (typ
 
   pub renumbered : Renumbered f g ws (renumber f g ws)
   renumbered = record {
+    format = format-now;
     permutes = p;
     as-many = as-many;
     root-is = root-now;
@@ -192,7 +193,7 @@ renumbered-accepted {f} {g} {ws} a p = record { passes = go }
     same = same-privileges (renumbered c p) c d
 
     go : (check : Check) → Passes (renumber f g ws) check
-    go Format = λ q l. record { long = omega (arith, whole c p); format = format-now c p ∙ a .passes Format 0 (omega arith) .format }
+    go Format = λ q l. record { long = omega (arith, whole c p); format = rw (format-now c p) (a .passes Format 0 (omega arith) .format) }
     go Layout = λ q l. d .tiled .laid
     go Kind = d .tiled .kinds
     go Count = d .tiled .counts

@@ -7,7 +7,7 @@ use lib.ListN.{length, getD, length-map}
 use Rattle.table.specs.Words.{types, root, kindAt, countAt, firstAt}
 use Rattle.table.specs.Rule.{ruleOf, ruleAt, kindIn, countOf, childrenAt, childAt, OfKind, Child}
 use Rattle.table.specs.Below.{Below, here, down, OnCycle, FromRoot}
-use Rattle.table.specs.Privilege.{privilegesOf, privilegesAt, firstPrivilege, privileges, Edit, text, insert, delete, replace, typeOf, Offers}
+use Rattle.table.specs.Privilege.{gapOf, privilegesOf, privilegesAt, firstPrivilege, privileges, Edit, text, insert, delete, exchange, replace, typeOf, Offers}
 use Rattle.table.specs.steps.Childed.{Childed}
 use Rattle.table.specs.Renumbered.{Renumbered, moved}
 use Rattle.table.specs.declared.rule.Rule.{Rule}
@@ -21,12 +21,14 @@ pub moved-type : (f : ℕ → ℕ) (e : Edit) → typeOf (moved f e) ≡ f (type
 moved-type f (text x) = refl
 moved-type f (insert x) = refl
 moved-type f (delete x) = refl
+moved-type f (exchange x) = refl
 moved-type f (replace x i j) = refl
 
 moved-twice : (f g : ℕ → ℕ) (e : Edit) → g (f (typeOf e)) ≡ typeOf e → moved g (moved f e) ≡ e
 moved-twice f g (text x) q = ap text q
 moved-twice f g (insert x) q = ap insert q
 moved-twice f g (delete x) q = ap delete q
+moved-twice f g (exchange x) q = ap exchange q
 moved-twice f g (replace x i j) q = ap (λ (y : ℕ). replace y i j) q
 
 module _ {f g : ℕ → ℕ} {ws vs : List ℕ} (r : Renumbered f g ws vs) where
@@ -57,6 +59,7 @@ module _ {f g : ℕ → ℕ} {ws vs : List ℕ} (r : Renumbered f g ws vs) where
   pub renumbered-back : Childed ws → Renumbered g f vs ws
   renumbered-back c = record {
     permutes = rw (r .as-many) (permutes-back (r .permutes));
+    format = sym (r .format);
     as-many = sym (r .as-many);
     root-is = sym (ap g (r .root-is) ∙ r .permutes .there-back (root ws) (c .tiled .laid .root-inside));
     kind = λ t l. kind t (rw (r .as-many) at l);
@@ -78,16 +81,16 @@ module _ {f g : ℕ → ℕ} {ws vs : List ℕ} (r : Renumbered f g ws vs) where
 -- what two rules have alike that differ in the place of their children only
 record Alike (r s : Rule) : Type 0 where
   kind : kindIn r ≡ kindIn s
-  privileges : privilegesOf r ≡ privilegesOf s
+  privileges : (gap : ℕ) → privilegesOf gap r ≡ privilegesOf gap s
 
 alike : (kind a b n : ℕ) → Alike (ruleOf kind a n) (ruleOf kind b n)
 unfolding ruleOf
-alike zero a b n = record { kind = refl; privileges = refl }
-alike (suc zero) a b n = record { kind = refl; privileges = refl }
-alike (suc (suc zero)) a b n = record { kind = refl; privileges = refl }
-alike (suc (suc (suc zero))) a b n = record { kind = refl; privileges = refl }
-alike (suc (suc (suc (suc zero)))) a b n = record { kind = refl; privileges = refl }
-alike (suc (suc (suc (suc (suc k))))) a b n = record { kind = refl; privileges = refl }
+alike zero a b n = record { kind = refl; privileges = λ gap. refl }
+alike (suc zero) a b n = record { kind = refl; privileges = λ gap. refl }
+alike (suc (suc zero)) a b n = record { kind = refl; privileges = λ gap. refl }
+alike (suc (suc (suc zero))) a b n = record { kind = refl; privileges = λ gap. refl }
+alike (suc (suc (suc (suc zero)))) a b n = record { kind = refl; privileges = λ gap. refl }
+alike (suc (suc (suc (suc (suc k))))) a b n = record { kind = refl; privileges = λ gap. refl }
 
 -- where both have the children that their records say
 module _ {f g : ℕ → ℕ} {ws vs : List ℕ} (r : Renumbered f g ws vs) (c : Childed ws) (d : Childed vs) where
@@ -113,13 +116,18 @@ module _ {f g : ℕ → ℕ} {ws vs : List ℕ} (r : Renumbered f g ws vs) (c : 
   offers-there (text x) h = kind-there h
   offers-there (insert x) h = kind-there h
   offers-there (delete x) h = kind-there h
+  offers-there (exchange x) h = record { star = kind-there (h .star); same-kind = r .format ∙ h .same-kind }
   offers-there (replace x i j) h =
       let count = count-there (h .choice .type) in
-      record { choice = kind-there (h .choice); from = rw count (h .from); to = rw count (h .to); apart = h .apart }
+      record { choice = kind-there (h .choice); from = rw count (h .from); to = rw count (h .to); same-kind = λ e. r .format ∙ h .same-kind e }
+
+  same-gap : gapOf vs ≡ gapOf ws
+  unfolding gapOf
+  same-gap = rw (r .format)
 
   own-there : (t : ℕ) → t < types ws → privilegesAt vs (f t) ≡ privilegesAt ws t
   unfolding privilegesAt
-  own-there t l = rule-there l .privileges
+  own-there t l = ap (λ (gap : ℕ). privilegesOf gap (ruleAt vs (f t))) same-gap ∙ rule-there l .privileges (gapOf ws)
 
   -- so there are as many privileges
   pub same-privileges : privileges vs ≡ privileges ws

@@ -6,11 +6,11 @@ use mathlib.Core.List.{List, [], _∷_, _++_, map}
 use lib.ListN.{getD}
 use Rattle.table.specs.Sum.{sumBelow}
 use Rattle.table.specs.Rule.{ruleOf, ruleAt, childrenAt, countOf}
-use Rattle.table.specs.Privilege.{privilegesAt, firstPrivilege, privileges}
+use Rattle.table.specs.Privilege.{gapOf, privilegesAt, firstPrivilege, privileges}
 use Rattle.table.specs.Check.{TableAnswer}
 use Rattle.table.specs.Renumbered.{blocks, renumber}
 use Rattle.table.proofs.TableTests.{answerOf, answer-of}
-use Rattle.table.proofs.Tables.{Each, each-computed, sampleWith, sample, alphabetical, lone}
+use Rattle.table.proofs.Tables.{Each, each-computed, sampleIn, sample, sampleTwo, alphabetical, lone}
 
 -- words, and the number and the place of their answer
 pub record Row : Type 0 where
@@ -31,11 +31,11 @@ abbrev leaves : ℕ → ℕ → ℕ → List ℕ
 leaves kind index zero = []
 leaves kind index (suc n) = kind ∷ 0 ∷ index ∷ leaves kind index n
 
--- a type of this kind with n empty types for children, and V
-abbrev fan : ℕ → ℕ → ℕ → List ℕ
-fan kind n v = 1 ∷ (11 + 4 * n) ∷ (1 + n) ∷ 0 ∷ 8 ∷ n ∷ (11 + 3 * n) ∷ v ∷ kind ∷ n ∷ 0 ∷ leaves 0 n n ++ from 1 n
+-- in this format, a type of this kind with n empty types for children, and V
+abbrev fan : ℕ → ℕ → ℕ → ℕ → List ℕ
+fan format kind n v = format ∷ (11 + 4 * n) ∷ (1 + n) ∷ 0 ∷ 8 ∷ n ∷ (11 + 3 * n) ∷ v ∷ kind ∷ n ∷ 0 ∷ leaves 0 n n ++ from 1 n
 
--- n choices, each of the 16 types that follow it, then 16 texts, and V
+-- in this format, n choices, each of the 16 types that follow it, then 16 childless types of this kind, and V
 abbrev choices : ℕ → ℕ → List ℕ
 choices index zero = []
 choices index (suc n) = 3 ∷ 16 ∷ index ∷ choices (index + 16) n
@@ -44,13 +44,15 @@ abbrev followers : ℕ → ℕ → List ℕ
 followers t zero = []
 followers t (suc n) = from (t + 1) 16 ++ followers (t + 1) n
 
-abbrev ladder : ℕ → ℕ → List ℕ
-ladder n v = 1 ∷ (56 + 19 * n) ∷ (16 + n) ∷ 0 ∷ 8 ∷ (16 * n) ∷ (56 + 3 * n) ∷ v ∷ choices 0 n ++ leaves 1 (16 * n) 16 ++ followers 0 n
+abbrev ladder : ℕ → ℕ → ℕ → ℕ → List ℕ
+ladder format kind n v = format ∷ (56 + 19 * n) ∷ (16 + n) ∷ 0 ∷ 8 ∷ (16 * n) ∷ (56 + 3 * n) ∷ v ∷ choices 0 n ++ leaves kind (16 * n) 16 ++ followers 0 n
 
 abbrev pub rows : List Row
 rows =
     -- the sample schema
     row sample 0 11
+    -- in format 2
+    ∷ row sampleTwo 0 15
     -- its types in alphabetical order
     ∷ row alphabetical 0 11
     -- a lone empty type
@@ -58,15 +60,22 @@ rows =
     -- a choice of one child has no privilege
     ∷ row (1 ∷ 15 ∷ 2 ∷ 0 ∷ 8 ∷ 1 ∷ 14 ∷ 0 ∷ 3 ∷ 1 ∷ 0 ∷ 0 ∷ 0 ∷ 1 ∷ 1 ∷ []) 0 0
     -- a choice of 16 children has 16 times 15
-    ∷ row (fan 3 16 240) 0 240
+    ∷ row (fan 1 3 16 240) 0 240
+    -- in format 2 a choice of one child has one, and a choice of 16 children 16 times 16; a star has three
+    ∷ row (fan 2 3 1 1) 0 1
+    ∷ row (fan 2 3 16 256) 0 256
+    ∷ row (fan 2 4 1 3) 0 3
     -- a sequence of 16 children
-    ∷ row (fan 2 16 0) 0 0
+    ∷ row (fan 1 2 16 0) 0 0
     -- 17 choices of 16 children and 16 texts: V is 4,096
-    ∷ row (ladder 17 4096) 0 4096
+    ∷ row (ladder 1 1 17 4096) 0 4096
+    -- 16 choices of 16 children and 16 empty types in format 2: V is 4,096
+    ∷ row (ladder 2 0 16 4096) 0 4096
     -- seven words
     ∷ row (1 ∷ 11 ∷ 1 ∷ 0 ∷ 8 ∷ 0 ∷ 11 ∷ []) 1 0
-    -- word 0 is 2
-    ∷ row (2 ∷ 11 ∷ 1 ∷ 0 ∷ 8 ∷ 0 ∷ 11 ∷ 0 ∷ 0 ∷ 0 ∷ 0 ∷ []) 1 0
+    -- word 0 is 3, and 0
+    ∷ row (3 ∷ 11 ∷ 1 ∷ 0 ∷ 8 ∷ 0 ∷ 11 ∷ 0 ∷ 0 ∷ 0 ∷ 0 ∷ []) 1 0
+    ∷ row (0 ∷ 11 ∷ 1 ∷ 0 ∷ 8 ∷ 0 ∷ 11 ∷ 0 ∷ 0 ∷ 0 ∷ 0 ∷ []) 1 0
     -- the root is 1 where E is 1
     ∷ row (1 ∷ 11 ∷ 1 ∷ 1 ∷ 8 ∷ 0 ∷ 11 ∷ 0 ∷ 0 ∷ 0 ∷ 0 ∷ []) 2 0
     -- a run one word short of word 1
@@ -78,11 +87,11 @@ rows =
     -- a star of two at type 0 and kind 5 at types 1 and 2: the lower number, then the lower place
     ∷ row (1 ∷ 19 ∷ 3 ∷ 0 ∷ 8 ∷ 2 ∷ 17 ∷ 0 ∷ 4 ∷ 2 ∷ 0 ∷ 5 ∷ 0 ∷ 2 ∷ 5 ∷ 0 ∷ 2 ∷ 1 ∷ 2 ∷ []) 3 1
     -- a choice of 17 children
-    ∷ row (fan 3 17 272) 4 0
+    ∷ row (fan 1 3 17 272) 4 0
     -- a sequence of no child
-    ∷ row (fan 2 0 0) 4 0
+    ∷ row (fan 1 2 0 0) 4 0
     -- a star of two
-    ∷ row (fan 4 2 2) 4 0
+    ∷ row (fan 1 4 2 2) 4 0
     -- a text with a child, at type 1
     ∷ row (1 ∷ 16 ∷ 2 ∷ 0 ∷ 8 ∷ 2 ∷ 14 ∷ 1 ∷ 2 ∷ 1 ∷ 0 ∷ 1 ∷ 1 ∷ 1 ∷ 1 ∷ 1 ∷ []) 4 1
     -- type 1 carries 0 where the running index is 1
@@ -108,9 +117,14 @@ rows =
     -- type 0 has type 1 as its child, and type 1 is the root
     ∷ row (1 ∷ 15 ∷ 2 ∷ 1 ∷ 8 ∷ 1 ∷ 14 ∷ 0 ∷ 2 ∷ 1 ∷ 0 ∷ 0 ∷ 0 ∷ 1 ∷ 1 ∷ []) 8 0
     -- the sample schema, with 12 in word 7
-    ∷ row (sampleWith 12) 9 0
+    ∷ row (sampleIn 1 12) 9 0
     -- 18 choices of 16 children and 16 texts: V is 4,336, and word 7 says so
-    ∷ row (ladder 18 4336) 9 0
+    ∷ row (ladder 1 1 18 4336) 9 0
+    -- in format 2, 17 choices of 16 children and 16 empty types: V is 4,352, and word 7 says so
+    ∷ row (ladder 2 0 17 4352) 9 0
+    -- V as in the other format
+    ∷ row (sampleIn 1 15) 9 0
+    ∷ row (sampleIn 2 11) 9 0
     ∷ []
 
 abbrev pub Right : Row → Type 0
@@ -121,7 +135,7 @@ abbrev again : Row → Row
 again r = let answer = answerOf (r .words) in row (r .words) (answer .number) (answer .place)
 
 computed : map again rows ≡ rows
-unfolding sumBelow ruleOf ruleAt childrenAt countOf privilegesAt firstPrivilege privileges
+unfolding sumBelow ruleOf ruleAt childrenAt countOf gapOf privilegesAt firstPrivilege privileges
 computed = refl
 
 pub samples : Each Right rows

@@ -13,7 +13,7 @@ use Rattle.table.specs.Sum.{sumBelow}
 use Rattle.table.specs.Words.{types, kindAt, countAt, firstAt, running}
 use Rattle.table.specs.steps.Reading.{Within, Widened}
 use Rattle.table.specs.Rule.{ruleOf, ruleAt, childrenAt}
-use Rattle.table.specs.Privilege.{privilegesOf, privilegesAt, firstPrivilege, privileges}
+use Rattle.table.specs.Privilege.{gapOf, privilegesOf, privilegesAt, firstPrivilege, privileges}
 use Rattle.table.specs.Check.{Headed, Laid, RightCount, Inside, Differ, Passes, Accepted}
 use Rattle.table.specs.steps.Childed.{Childed}
 use Rattle.table.specs.steps.Counts.{occurs, entriesOf}
@@ -143,7 +143,8 @@ module _ {ws : List ℕ} {n kind first count : ℕ} (r : Read ws n kind first co
     pub read-few : length kids ≤ 16
     read-few = omega (arith, few-children kind count (r .low) (r .right), ap length k ∙ length-take (stop - start) (drop start ws))
 
-  pub read-privileges : {rule : Rule} {own : ℕ} → rule ≡ ruleOf kind first count → Within 4294967296 (privilegesOf rule) own → Within 4294967296 (privilegesAt ws n) own
+  pub read-privileges : {rule : Rule} {own : ℕ} → rule ≡ ruleOf kind first count → Within 4294967296 (privilegesOf (gapOf ws) rule) own
+      → Within 4294967296 (privilegesAt ws n) own
   unfolding privilegesAt ruleAt
   read-privileges e p = rw (e, r .kind-is .is, r .first-is .is, r .count-is .is) at p
 
@@ -157,11 +158,11 @@ leaf-right kind low = record {
   star = λ e. absurd (omega arith);
 }
 
-leaf-privileges : (kind first : ℕ) → kind ≤ 1 → Within 4294967296 (privilegesOf (ruleOf kind first 0)) kind
+leaf-privileges : (gap kind first : ℕ) → kind ≤ 1 → Within 4294967296 (privilegesOf gap (ruleOf kind first 0)) kind
 unfolding ruleOf
-leaf-privileges zero first low = record { is = refl; small = omega arith }
-leaf-privileges (suc zero) first low = record { is = refl; small = omega arith }
-leaf-privileges (suc (suc k)) first low = absurd (omega arith)
+leaf-privileges gap zero first low = record { is = refl; small = omega arith }
+leaf-privileges gap (suc zero) first low = record { is = refl; small = omega arith }
+leaf-privileges gap (suc (suc k)) first low = absurd (omega arith)
 
 module _ {ws stamps counts : List ℕ} {n index sum : ℕ} (s : TypesSoFar ws n index sum stamps counts) where
   pub types-more : {kind count own e : ℕ} {kids stamps-after counts-after : List ℕ} → Read ws n kind index count → e ≡ types ws → n < e → kids ≡ childrenAt ws n
@@ -204,7 +205,7 @@ module _ {ws stamps counts : List ℕ} {n index sum : ℕ} (s : TypesSoFar ws n 
         each = λ x h. omega (arith, occurs-none [] x);
       }
       in
-      let own : Within 4294967296 (privilegesOf (ruleOf kind index 0)) kind = leaf-privileges kind index low in
+      let own : Within 4294967296 (privilegesOf (gapOf ws) (ruleOf kind index 0)) kind = leaf-privileges (gapOf ws) kind index low in
       rw same at (types-more r te l none st (read-privileges r refl own))
 
   pub types-all : types ws ≤ n → types ws ≤ 256 → Totals ws index sum → TypesPass ws counts

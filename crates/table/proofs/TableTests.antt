@@ -5,9 +5,9 @@ use mathlib.Core.List.{List}
 use native.Mathlib.Omega.{arith}
 use lib.ListN.{length, getD}
 use Rattle.table.specs.steps.Found.{Lowest}
-use Rattle.table.specs.Words.{types, entries, root, kindAt, countAt, firstAt, running}
+use Rattle.table.specs.Words.{formatOf, types, entries, root, kindAt, countAt, firstAt, running}
 use Rattle.table.specs.Rule.{ruleAt, kindIn, countOf, childrenAt, OfKind}
-use Rattle.table.specs.Privilege.{privilegesAt, firstPrivilege, privileges, Belongs, Replaceable}
+use Rattle.table.specs.Privilege.{privilegesAt, firstPrivilege, privileges, Belongs, Exchangeable, Replaceable}
 use Rattle.table.specs.Check.{Headed, Laid, RightCount, Follows, Inside, Differ, Counted, Holds}
 use Rattle.table.specs.Check.{placesOf, numberOf, rankOf, Passes, TableAnswer, refused, accepted}
 use Rattle.table.specs.declared.Found.{Found}
@@ -15,7 +15,7 @@ use Rattle.table.specs.declared.Found.the-variants.{At, Nothing}
 use Rattle.table.specs.declared.Checked.{Checked}
 use Rattle.table.specs.declared.check.Check.{Check}
 use Rattle.table.specs.declared.check.Check.the-variants.{Format, Layout, Kind, Count, Stretch, Bounds, Twice, Cycle, Unreached, Total}
-use Rattle.table.proofs.Test.{Test, isLess, isAtMost, isEqual, both, fails, implies, means, every, lowestOf, lowest-of}
+use Rattle.table.proofs.Test.{Test, isLess, isAtMost, isEqual, both, either, fails, implies, means, every, lowestOf, lowest-of}
 use Rattle.table.proofs.Answers.{checkOf, check-rank, rank-range, earlier-more}
 use Rattle.table.proofs.BelowTests.{offCycle, reached}
 
@@ -26,9 +26,12 @@ module _ (ws : List ℕ) where
       (both (isLess t (types ws)) (isEqual (kindIn (ruleAt ws t)) kind))
 
   abbrev pub replaceable : (x i j : ℕ) → Test (Replaceable ws x i j)
-  replaceable x i j = means (λ h. record { choice = h .0; from = h .1 .0; to = h .1 .1 .0; apart = h .1 .1 .1 })
-      (λ h. (h .choice, (h .from, (h .to, h .apart))))
-      (both (ofKind x 3) (both (isLess i (countOf ws x)) (both (isLess j (countOf ws x)) (fails (isEqual i j)))))
+  replaceable x i j = means (λ h. record { choice = h .0; from = h .1 .0; to = h .1 .1 .0; same-kind = h .1 .1 .1 })
+      (λ h. (h .choice, (h .from, (h .to, h .same-kind))))
+      (both (ofKind x 3) (both (isLess i (countOf ws x)) (both (isLess j (countOf ws x)) (implies (isEqual i j) (isEqual (formatOf ws) 2)))))
+
+  abbrev pub exchangeable : (x : ℕ) → Test (Exchangeable ws x)
+  exchangeable x = means (λ h. record { star = h .0; same-kind = h .1 }) (λ h. (h .star, h .same-kind)) (both (ofKind x 4) (isEqual (formatOf ws) 2))
 
   abbrev pub belongs : (p x : ℕ) → Test (Belongs ws p x)
   belongs p x = means (λ h. record { type = h .0; from = h .1 .0; until = h .1 .1 }) (λ h. (h .type, (h .from, h .until)))
@@ -37,7 +40,7 @@ module _ (ws : List ℕ) where
 -- what the checks ask
 abbrev headed : (ws : List ℕ) → Test (Headed ws)
 headed ws = means (λ h. record { long = h .0; format = h .1 }) (λ h. (h .long, h .format))
-    (both (isAtMost 8 (length ws)) (isEqual (getD ws 0 0) 1))
+    (both (isAtMost 8 (length ws)) (either (isEqual (formatOf ws) 1) (isEqual (formatOf ws) 2)))
 
 abbrev laid : (ws : List ℕ) → Test (Laid ws)
 laid ws = means

@@ -26,22 +26,33 @@ digits (suc k) n s = digits k (n / 10) (n % 10 ∷ s)
 abbrev pub marksOf : List ℕ → ℕ → List ℕ
 marksOf words n = digits (getD words 7 0) n []
 
--- the sample schema of document 01, with V: 0 and 1 are the insert and delete of a layer, 3 its range, 4 to 9 the replacements at the choice of
--- draft, held and final, 10 the text of final
-abbrev pub sampleWith : ℕ → List ℕ
-sampleWith v =
-    1 ∷ 39 ∷ 8 ∷ 0 ∷ 8 ∷ 7 ∷ 32 ∷ v
+-- the sample schema of document 01, with its format and V: 0 and 1 are the insert and delete of a layer, 3 its range, 4 to 9 the replacements at the
+-- choice of draft, held and final, 10 the text of final. In format 2 the layer's exchange is 2 and its range 4; 5, 6, 7 replace draft by draft, held,
+-- final, 8, 9, 10 held and 11, 12, 13 final; 14 is the text of final
+abbrev pub sampleIn : ℕ → ℕ → List ℕ
+sampleIn format v =
+    format ∷ 39 ∷ 8 ∷ 0 ∷ 8 ∷ 7 ∷ 32 ∷ v
     ∷ 4 ∷ 1 ∷ 0 ∷ 2 ∷ 3 ∷ 1 ∷ 1 ∷ 0 ∷ 4 ∷ 1 ∷ 0 ∷ 4 ∷ 3 ∷ 3 ∷ 4 ∷ 0 ∷ 0 ∷ 7 ∷ 0 ∷ 0 ∷ 7 ∷ 1 ∷ 0 ∷ 7
     ∷ 1 ∷ 2 ∷ 3 ∷ 4 ∷ 5 ∷ 6 ∷ 7 ∷ []
 
 abbrev pub sample : List ℕ
-sample = sampleWith 11
+sample = sampleIn 1 11
+
+abbrev pub sampleTwo : List ℕ
+sampleTwo = sampleIn 2 15
 
 -- the same with its types in alphabetical order: draft, final, held, job (the root), layer, name, range, state. 0 is the text of final, 1 and 2 are the
 -- insert and delete of a layer, 4 is its range, 5 to 10 are the replacements
 abbrev pub alphabetical : List ℕ
 alphabetical =
     1 ∷ 39 ∷ 8 ∷ 3 ∷ 8 ∷ 7 ∷ 32 ∷ 11
+    ∷ 0 ∷ 0 ∷ 0 ∷ 1 ∷ 0 ∷ 0 ∷ 0 ∷ 0 ∷ 0 ∷ 4 ∷ 1 ∷ 0 ∷ 2 ∷ 3 ∷ 1 ∷ 1 ∷ 0 ∷ 4 ∷ 1 ∷ 0 ∷ 4 ∷ 3 ∷ 3 ∷ 4
+    ∷ 4 ∷ 5 ∷ 6 ∷ 7 ∷ 0 ∷ 2 ∷ 1 ∷ []
+
+-- the same in format 2: 0 is the text of final, 1, 2 and 3 are the insert, delete and exchange of a layer, 5 is its range, 6 to 14 are the replacements
+abbrev pub alphabeticalTwo : List ℕ
+alphabeticalTwo =
+    2 ∷ 39 ∷ 8 ∷ 3 ∷ 8 ∷ 7 ∷ 32 ∷ 15
     ∷ 0 ∷ 0 ∷ 0 ∷ 1 ∷ 0 ∷ 0 ∷ 0 ∷ 0 ∷ 0 ∷ 4 ∷ 1 ∷ 0 ∷ 2 ∷ 3 ∷ 1 ∷ 1 ∷ 0 ∷ 4 ∷ 1 ∷ 0 ∷ 4 ∷ 3 ∷ 3 ∷ 4
     ∷ 4 ∷ 5 ∷ 6 ∷ 7 ∷ 0 ∷ 2 ∷ 1 ∷ []
 

@@ -1,23 +1,23 @@
 -- "Each answer has a number and a place. Checks run in number order; the place is the lowest at which that check fails, and 0 where none is named"
 -- (document 01, "Numbers of the answers and their order", with its table of numbers, and "The schema table"); 19 "stands between 7 and 8" (document
--- 02, order 2), so the order of the checks is a rank of its own. Assumes nothing.
+-- 02, order 2), so the order of the checks is a rank of its own; "1 now means word 0 is neither 1 nor 2" (order 9). Assumes nothing.
 use Prim.Native.Nat.{ℕ, _+_, _*_, _≤_, _<_}
 use mathlib.Core.Path.{_≡_}
-use mathlib.Core.Logic.{_≢_}
+use mathlib.Core.Logic.{_≢_, _⊎_}
 use mathlib.Core.List.{List}
 use lib.ListN.{length, getD}
 use Rattle.table.specs.Lowest.{LowestAt}
-use Rattle.table.specs.Words.{types, entries, root, kindAt, countAt, firstAt, running}
+use Rattle.table.specs.Words.{formatOf, types, entries, root, kindAt, countAt, firstAt, running}
 use Rattle.table.specs.Rule.{childrenAt}
 use Rattle.table.specs.Below.{OffCycle, FromRoot}
 use Rattle.table.specs.Privilege.{privileges}
 use Rattle.table.specs.declared.check.Check.{Check}
 use Rattle.table.specs.declared.check.Check.the-variants.{Format, Layout, Kind, Count, Stretch, Bounds, Twice, Cycle, Unreached, Total}
 
--- 1: at least 8 words, and word 0 is 1
+-- 1: at least 8 words, and word 0 is 1 or 2
 pub record Headed (ws : List ℕ) : Type 0 where
   pub long : 8 ≤ length ws
-  pub format : getD ws 0 0 ≡ 1
+  pub format : (formatOf ws ≡ 1) ⊎ (formatOf ws ≡ 2)
 
 -- 2: words 1 to 6 are as the header says, and the run is as long as word 1
 pub record Laid (ws : List ℕ) : Type 0 where

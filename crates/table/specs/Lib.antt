@@ -5,6 +5,7 @@ pub mod Words
 pub mod Rule
 pub mod Below
 pub mod Privilege
+pub mod Formats
 pub mod Check
 pub mod Plus
 pub mod Renumbered

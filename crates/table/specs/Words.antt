@@ -6,6 +6,10 @@ use mathlib.Core.List.{List}
 use lib.ListN.{getD}
 use Rattle.table.specs.Sum.{sumBelow}
 
+-- the format, which says what edits the table has
+abbrev pub formatOf : List ℕ → ℕ
+formatOf ws = getD ws 0 0
+
 -- E, the number of types
 abbrev pub types : List ℕ → ℕ
 types ws = getD ws 2 0

@@ -12,6 +12,7 @@ use super::check::is_headed;
 use super::check::is_laid;
 use super::check::right_count;
 use super::order::is_ordered;
+use super::privilege::gap_of;
 use super::privilege::privileges_of;
 use super::rule::rule_of;
 use super::words::entries;
@@ -76,6 +77,7 @@ fn types_pass(words: &[u16], stamps: &mut [u16; 256], counts: &mut [u16; 256]) -
     requires { ⌜ Laid (now words) × (length (now stamps) ≡ 256) × (now counts ≡ replicate 256 0) ⌝ }
     ensures { λ r. ⌜ (r ≡ true → TypesPass (now (words .entry)) (now (counts .exit))) ⌝ }
 {
+    let gap = gap_of(words);
     let e = types(words);
     let list = 8 + 3 * e;
     let mut index = 0;
@@ -105,7 +107,7 @@ fn types_pass(words: &[u16], stamps: &mut [u16; 256], counts: &mut [u16; 256]) -
         if !stamp_children(&words[list + index..list + next], e, t, stamps, counts) {
             return false;
         }
-        sum += privileges_of(rule_of(kind, index, count));
+        sum += privileges_of(rule_of(kind, index, count), gap);
         index = next;
         t += 1;
     }

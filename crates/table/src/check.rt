@@ -93,7 +93,11 @@ pub fn is_headed(words: &[u16]) -> bool
     if words.len() < 8 {
         return false;
     }
-    word_at(words, 0) == 1
+    let format = word_at(words, 0);
+    if format == 1 {
+        return true;
+    }
+    format == 2
 }
 
 pub fn is_laid(words: &[u16]) -> bool

@@ -5,8 +5,8 @@ ghost use lib.ListN.{length};
 ghost use Rattle.table.specs.Words.{types};
 ghost use Rattle.table.specs.steps.Reading.{Within, HasRecord};
 ghost use Rattle.table.specs.Rule.{countIn};
-ghost use Rattle.table.specs.Privilege.{privilegesOf, privilegesAt, firstPrivilege, privileges};
-ghost use Rattle.table.specs.steps.Numbering.{othersOf, choicesOf, Firsts, NumberedAs, Positions, insertIn, deleteIn, replaceIn, rowIn, ReplaceableIn};
+ghost use Rattle.table.specs.Privilege.{gapOf, privilegesOf, privilegesAt, firstPrivilege, privileges};
+ghost use Rattle.table.specs.steps.Numbering.{othersOf, choicesOf, Firsts, NumberedAs, Small, Positions, insertIn, deleteIn, exchangeIn, replaceIn, widthIn, rowIn, missingIn, ExchangeableIn};
 ghost use Rattle.table.specs.Check.{Laid, Accepted};
 ghost use Rattle.table.specs.steps.Found.{Tells};
 use super::rule::Rule;
@@ -14,16 +14,24 @@ use super::rule::rule_at;
 use super::words::record_word;
 use super::words::types;
 
-// How many privileges of a rule are no replacements.
-fn others_of(rule: Rule) -> usize
-    ensures { λ r. ⌜ r ≡ othersOf rule ⌝ }
+// How many kinds there are by which a child cannot be replaced: in format 2 none, else one, its own.
+pub fn gap_of(words: &[u16]) -> usize
+    requires { ⌜ 0 < length (now words) ⌝ }
+    ensures { λ r. ⌜ Within 2 (gapOf (now (words .entry))) r ⌝ }
+{
+    if words[0] == 2 { 0 } else { 1 }
+}
+
+// How many privileges of a rule are no replacements at a choice, by the number that a star has.
+fn others_of(rule: Rule, star: usize) -> usize
+    ensures { λ r. ⌜ r ≡ othersOf star rule ⌝ }
 {
     match rule {
         Rule::Empty => 0,
         Rule::Text => 1,
         Rule::Sequence { first: _, count: _ } => 0,
         Rule::Choice { first: _, count: _ } => 0,
-        Rule::Star { first: _, count: _ } => 2,
+        Rule::Star { first: _, count: _ } => star,
     }
 }
 
@@ -40,13 +48,24 @@ fn choices_of(rule: Rule) -> usize
     }
 }
 
-// How many privileges a rule has. Both parts are looked up and not branched to: tables mix their kinds.
-pub(crate) fn privileges_of(rule: Rule) -> usize
-    requires { ⌜ countIn rule < 65536 ⌝ }
-    ensures { λ r. ⌜ Within 4294967296 (privilegesOf rule) r ⌝ }
+// How many privileges a rule has. In either format both parts are looked up and not branched to: tables mix their kinds.
+pub(crate) fn privileges_of(rule: Rule, gap: usize) -> usize
+    requires { ⌜ (countIn rule < 65536) × (gap < 2) ⌝ }
+    ensures { λ r. ⌜ Within 4294967296 (privilegesOf gap rule) r ⌝ }
 {
     let n = choices_of(rule);
-    others_of(rule) + (n * n - n)
+    if gap == 0 {
+        return others_of(rule, 3) + n * n;
+    }
+    others_of(rule, 2) + (n * n - n)
+}
+
+// How many privileges type x has, by the gap, for who asks it of many types.
+pub fn privileges_in(words: &[u16], x: usize, gap: usize) -> usize
+    requires { ⌜ HasRecord (now words) x × (gap ≡ gapOf (now words)) ⌝ }
+    ensures { λ r. ⌜ Within 4294967296 (privilegesAt (now (words .entry)) x) r ⌝ }
+{
+    privileges_of(rule_at(words, x), gap)
 }
 
 // How many privileges type x has.
@@ -54,7 +73,7 @@ pub fn privileges_at(words: &[u16], x: usize) -> usize
     requires { ⌜ HasRecord (now words) x ⌝ }
     ensures { λ r. ⌜ Within 4294967296 (privilegesAt (now (words .entry)) x) r ⌝ }
 {
-    privileges_of(rule_at(words, x))
+    privileges_in(words, x, gap_of(words))
 }
 
 // V, the number of privileges.
@@ -91,6 +110,7 @@ pub fn first_privileges(words: &[u16], firsts: &mut [u16; 256])
 pub struct Numbering {
     pub first: usize,
     pub count: usize,
+    pub gap: usize,
 }
 
 // The numbering at type x of a table, whose first privilege is given.
@@ -101,6 +121,7 @@ pub fn numbers_at(words: &[u16], x: usize, first: usize) -> Numbering
     Numbering {
         first: first,
         count: record_word(words, x, 1),
+        gap: gap_of(words),
     }
 }
 
@@ -119,18 +140,27 @@ pub fn deletion(n: Numbering) -> usize
     n.first + 1
 }
 
-// Is there a privilege to replace the child at i by the kind at j?
-pub fn is_replaceable(n: Numbering, i: usize, j: usize) -> bool
-    ensures { λ r. ⌜ Tells (ReplaceableIn n i j) r ⌝ }
+// The privilege to exchange at a star that has one.
+pub fn exchange(n: Numbering) -> usize
+    requires { ⌜ n .first ≤ 4096 ⌝ }
+    ensures { λ r. ⌜ r ≡ exchangeIn n ⌝ }
 {
-    let count = n.count;
-    if count <= i {
-        return false;
-    }
-    if count <= j {
-        return false;
-    }
-    i != j
+    n.first + 2
+}
+
+// Is there a privilege to exchange at a star?
+pub fn is_exchangeable(n: Numbering) -> bool
+    ensures { λ r. ⌜ Tells (ExchangeableIn n) r ⌝ }
+{
+    n.gap == 0
+}
+
+// How many privileges there are to replace one child of a choice.
+pub fn width(n: Numbering) -> usize
+    requires { ⌜ Small n × (0 < n .count) ⌝ }
+    ensures { λ r. ⌜ r ≡ widthIn n ⌝ }
+{
+    n.count - n.gap
 }
 
 // The first of the privileges to replace the child at i.
@@ -138,7 +168,15 @@ pub fn row_at(n: Numbering, i: usize) -> usize
     requires { ⌜ Positions n i i ⌝ }
     ensures { λ r. ⌜ Within 8192 (rowIn n i) r ⌝ }
 {
-    n.first + i * (n.count - 1)
+    n.first + i * width(n)
+}
+
+// The position by which the child at i cannot be replaced: its own, or one that no choice has.
+pub fn missing(n: Numbering, i: usize) -> usize
+    requires { ⌜ Positions n i i ⌝ }
+    ensures { λ r. ⌜ Within 32 (missingIn n i) r ⌝ }
+{
+    i + 16 * (1 - n.gap)
 }
 
 // The privilege to replace the child at i by the kind at j.
@@ -147,5 +185,5 @@ pub fn replacement(n: Numbering, i: usize, j: usize) -> usize
     ensures { λ r. ⌜ r ≡ replaceIn n i j ⌝ }
 {
     let row = row_at(n, i);
-    if i < j { row + (j - 1) } else { row + j }
+    if i < j { row + (j - n.gap) } else { row + j }
 }

@@ -9,7 +9,7 @@ use lib.Dec.{T, eqb, eqb→eq}
 use lib.ListN.{length}
 use Rattle.table.specs.Sum.{sumBelow}
 use Rattle.table.specs.Rule.{ruleOf, ruleAt, childrenAt}
-use Rattle.table.specs.Privilege.{privilegesAt, firstPrivilege, privileges}
+use Rattle.table.specs.Privilege.{gapOf, privilegesAt, firstPrivilege, privileges}
 use Rattle.table.proofs.Test.{and-out}
 use Rattle.table.proofs.Tables.{Each, sample}
 use Rattle.grammar.specs.Bytes.{ascii}
@@ -178,7 +178,7 @@ all-answers [] h = tt
 all-answers (r ∷ rs) h = let y = and-out (same r (answer (r .text) (r .out) 1000)) (all rs) h in (same-answers r (answer (r .text) (r .out) 1000) (y .0), all-answers rs (y .1))
 
 computed : all rows ≡ true
-unfolding numberIn rulesOf wordsOf sumBelow ruleOf ruleAt childrenAt privilegesAt firstPrivilege privileges
+unfolding numberIn rulesOf wordsOf sumBelow ruleOf ruleAt childrenAt gapOf privilegesAt firstPrivilege privileges
 computed = refl
 
 pub samples : Each Answers rows

@@ -5,17 +5,17 @@ use mathlib.Core.Logic.{_≢_, _⊎_, inl, inr}
 use mathlib.Core.List.{List, [], _∷_}
 use native.Mathlib.Omega.{arith}
 use Rattle.table.specs.Rule.{ruleAt, kindIn, countOf, childAt, IsChoice, IsStar}
-use Rattle.table.specs.Privilege.{insertOf, deleteOf}
 use Rattle.table.specs.steps.Numbering.{NumberedAs, replaceIn}
 use Rattle.table.specs.declared.privilege.Numbering.{Numbering}
 use Rattle.table.proofs.Privileges.{replaceable-in, in-replaceable, replace-in}
 use Rattle.policy.specs.Marks.{Allowed}
 use Rattle.policy.specs.Reached.{Reached}
+use Rattle.policy.specs.Renewed.{Renewed, by-both, Barred}
 use Rattle.policy.specs.steps.Squares.{Square}
 use Rattle.policy.proofs.SquareLaws.{marked-told, told-marked}
 use Rattle.policy.proofs.Reaches.{reached-from, reached-to}
-use Rattle.verdict.specs.Breaches.{conditionNumber, Spot, spotOf, InsertDeleteBreach, ChainBreach, CycleBreach, BreachOf, key, Lex}
-use Rattle.verdict.specs.steps.Visits.{Broken, FirstAt, Searched, none, first, BreachAt, CycleAt}
+use Rattle.verdict.specs.Breaches.{conditionNumber, Spot, spotOf, StarBroken, at-exchange, at-below, InsertDeleteBreach, ChainBreach, CycleBreach, BreachOf, key, Lex}
+use Rattle.verdict.specs.steps.Visits.{brokenStar, Broken, FirstAt, Searched, none, first, BreachAt, CycleAt}
 use Rattle.verdict.specs.declared.Breach.{Breach}
 use Rattle.verdict.specs.declared.Condition.{Condition}
 use Rattle.verdict.specs.declared.Condition.the-variants.{InsertDelete, Chain, Cycle}
@@ -52,17 +52,20 @@ module _ (ws marks : List ℕ) (B : ℕ → ℕ → Type 0) (x : ℕ) where
       go (inr h) = h
 
   module _ (star : IsStar ws x) where
-    -- an insert or a delete that is not allowed, or nothing forbidden below: no breach
-    pub star-closed : ¬ (Allowed marks (insertOf ws x) × Allowed marks (deleteOf ws x)) → (s : Spot) (p : ℕ) → ¬ BreachAt ws marks B x s p
-    star-closed d s p b = let h = star-only star s p b .1 in d (rw (b .here) at (h .insert), rw (b .here) at (h .delete))
+    -- what breaks the star, at whatever spot
+    broken-here : (s : Spot) (p : ℕ) → BreachAt ws marks B x s p → StarBroken ws marks B x p
+    broken-here s p b = rw (b .here) at (star-only star s p b .1 .broken)
 
-    pub star-free : ((q : ℕ) → ¬ B (childAt ws x 0) q) → (s : Spot) (p : ℕ) → ¬ BreachAt ws marks B x s p
-    star-free n s p b = let h = star-only star s p b .1 in n p (rw (b .here) at (h .below))
+    -- a child that cannot be renewed, or neither the exchange forbidden nor anything below: no breach
+    pub star-closed : ¬ Renewed ws (Allowed marks) x → (s : Spot) (p : ℕ) → ¬ BreachAt ws marks B x s p
+    star-closed d s p b = elim (broken-here s p b) [ at-exchange f q ↦ d (by-both (f .both)) | at-below f r w ↦ d r ]
 
-    pub star-first : {p : ℕ} → Allowed marks (insertOf ws x) → Allowed marks (deleteOf ws x) → B (childAt ws x 0) p
-        → Searched (BreachAt ws marks B x) (record { condition = InsertDelete; element = x; i = 0; j = 0; privilege = p })
-    star-first {p} i d f = first
-        (record { breach = record { star = star; zero-i = refl; zero-j = refl; insert = i; delete = d; below = f }; here = refl })
+    pub star-free : ¬ Barred ws marks x → ((q : ℕ) → ¬ B (childAt ws x 0) q) → (s : Spot) (p : ℕ) → ¬ BreachAt ws marks B x s p
+    star-free d n s p b = elim (broken-here s p b) [ at-exchange f q ↦ d f | at-below f r w ↦ n p w ]
+
+    pub star-first : {p : ℕ} → StarBroken ws marks B x p → Searched (BreachAt ws marks B x) (brokenStar x p)
+    star-first {p} f = first
+        (record { breach = record { star = star; zero-i = refl; zero-j = refl; broken = f }; here = refl })
         (λ s q b l. go s q b (star-only star s q b) l)
       where
         go : (s : Spot) (q : ℕ) → BreachAt ws marks B x s q → (s .condition ≡ InsertDelete) × InsertDeleteBreach ws marks B s q → ¬ Lex (key s) (x ∷ 1 ∷ 0 ∷ 0 ∷ [])

@@ -6,11 +6,12 @@ use mathlib.Core.List.{List, [], _∷_}
 use native.Mathlib.Omega.{arith}
 use lib.ListN.{length, getD}
 use Rattle.table.specs.Words.{types}
-use Rattle.table.specs.Privilege.{replaceOf}
+use Rattle.table.specs.Privilege.{exchangeOf, replaceOf}
 use Rattle.table.proofs.Lists.{le-or-lt}
+use Rattle.policy.specs.Renewed.{Barred}
 use Rattle.verdict.specs.Below.{ForbiddenBelow}
 use Rattle.verdict.specs.Conditions.{Clean}
-use Rattle.verdict.specs.Breaches.{conditionNumber, Spot, spotOf, InsertDeleteBreach, ChainBreach, CycleBreach, BreachOf, BreachBy, IsBreach, key}
+use Rattle.verdict.specs.Breaches.{conditionNumber, Spot, spotOf, at-exchange, at-below, InsertDeleteBreach, ChainBreach, CycleBreach, BreachOf, BreachBy, IsBreach, key}
 use Rattle.verdict.specs.Breaches.{Lex, less, same, FirstSpot, FirstBreach, Verdict, clean, broken}
 use Rattle.verdict.specs.steps.Visits.{Searched, none, first, BreachAt}
 use Rattle.verdict.specs.declared.Breach.{Breach}
@@ -141,19 +142,29 @@ module _ (ws marks : List ℕ) where
   clean-none q s p b = go (breach-cases ws marks Here s p b)
     where
       go : Cases ws marks Here s p → ⊥
-      go (inl (e, h)) = q .insert-delete (s .element) p (h .star) (h .insert) (h .delete) (h .below .below) (h .below .forbidden)
+      go (inl (e, h)) = elim (h .broken) [
+        | at-exchange b k ↦ q .exchange (s .element) (b .can) (b .both) (b .forbidden)
+        | at-below d r w ↦ q .renewal (s .element) p (h .star) r (w .below) (w .forbidden)
+      ]
       go (inr (inl (e, h))) = q .chain (s .element) (s .i) (s .j) (h .choice) (h .reached) (h .can) (rw (h .is) at (h .forbidden))
       go (inr (inr (e, h))) = q .cycle (s .element) (s .i) p (h .choice) (h .reached) (h .below .below) (h .below .forbidden)
 
   pub none-clean : ((s : Spot) (p : ℕ) → ¬ IsBreach ws marks s p) → Clean ws marks
   none-clean n = record {
-    insert-delete = λ x p s a b w f. n (record { condition = InsertDelete; element = x; i = 0; j = 0 }) p
-        (record { star = s; zero-i = refl; zero-j = refl; insert = a; delete = b; below = record { below = w; forbidden = f } });
+    exchange = λ x c b f. unbarred x (record { can = c; both = b; forbidden = f });
+    renewal = λ x p s r w f. n (star x) p
+        (record { star = s; zero-i = refl; zero-j = refl; broken = at-below (unbarred x) r (record { below = w; forbidden = f }) });
     chain = λ x i j s r c f. n (record { condition = Chain; element = x; i = i; j = j }) (replaceOf ws x i j)
         (record { choice = s; reached = r; can = c; is = refl; forbidden = f });
     cycle = λ x i p s r w f. n (record { condition = Cycle; element = x; i = i; j = i }) p
         (record { choice = s; same = refl; reached = r; below = record { below = w; forbidden = f } });
   }
+    where
+      star : ℕ → Spot
+      star x = record { condition = InsertDelete; element = x; i = 0; j = 0 }
+
+      unbarred : (x : ℕ) → ¬ Barred ws marks x
+      unbarred x b = n (star x) (exchangeOf ws x) (record { star = b .can .star; zero-i = refl; zero-j = refl; broken = at-exchange b refl })
 
   -- a policy has one verdict
   pub verdict-one : {b c : Breach} → Verdict ws marks b → Verdict ws marks c → b ≡ c

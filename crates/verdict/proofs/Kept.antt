@@ -6,13 +6,13 @@ use mathlib.Core.List.{List}
 use native.Mathlib.Omega.{arith}
 use lib.ListN.{getD}
 use Rattle.table.specs.Words.{types}
-use Rattle.table.specs.Rule.{childAt}
+use Rattle.table.specs.Rule.{childAt, IsStar}
 use Rattle.table.specs.Check.{Accepted}
 use Rattle.table.proofs.Facts.{facts}
 use Rattle.policy.specs.Marks.{Policy}
 use Rattle.policy.proofs.Reaches.{reached-from}
 use Rattle.verdict.specs.Below.{ForbiddenBelow}
-use Rattle.verdict.specs.Breaches.{Spot, spotOf, BreachOf, BreachBy, FirstSpot, Verdict, clean, broken}
+use Rattle.verdict.specs.Breaches.{Spot, spotOf, StarBroken, at-exchange, at-below, BreachOf, BreachBy, FirstSpot, Verdict, clean, broken}
 use Rattle.verdict.specs.steps.Lows.{Kept, Right, Agree}
 use Rattle.verdict.specs.steps.Visits.{Searched, none, first}
 use Rattle.verdict.specs.declared.Breach.{Breach}
@@ -24,12 +24,17 @@ use Rattle.verdict.proofs.Lows.{below-small}
 module _ {ws : List ℕ} (marks : List ℕ) (a : Accepted ws) where
   -- what is below the child at a spot
   module _ {B C : ℕ → ℕ → Type 0} (so : (y p : ℕ) → y < types ws → B y p → (q : ℕ) × C y q) where
+    star : (x p : ℕ) → IsStar ws x → StarBroken ws marks B x p → (q : ℕ) × StarBroken ws marks C x q
+    star x p s (at-exchange b e) = (p, at-exchange b e)
+    star x p s (at-below d r w) =
+        let below = so (childAt ws x 0) p (facts a .child-inside x 0 (s .type) (omega (arith, facts a .star-one x s))) w in
+        (below .0, at-below d r (below .1))
+
     move : (k : Condition) (s : Spot) (p : ℕ) → BreachOf ws marks B k s p → (q : ℕ) × BreachOf ws marks C k s q
     move None s p h = absurd h
     move InsertDelete s p h =
-        let x = s .element in
-        let below = so (childAt ws x 0) p (facts a .child-inside x 0 (h .star .type) (omega (arith, facts a .star-one x (h .star)))) (h .below) in
-        (below .0, record { star = h .star; zero-i = h .zero-i; zero-j = h .zero-j; insert = h .insert; delete = h .delete; below = below .1 })
+        let r = star (s .element) p (h .star) (h .broken) in
+        (r .0, record { star = h .star; zero-i = h .zero-i; zero-j = h .zero-j; broken = r .1 })
     move Chain s p h = (p, h)
     move Cycle s p h =
         let x = s .element in
@@ -58,16 +63,22 @@ module _ {ws marks : List ℕ} (low : List ℕ) (pol : Policy ws marks) (right :
   }
 
   -- and the privilege is the lowest
+  star-lowest : (x p : ℕ) → IsStar ws x → StarBroken ws marks (Kept low) x p
+      → StarBroken ws marks (ForbiddenBelow ws marks) x p × ((q : ℕ) → StarBroken ws marks (ForbiddenBelow ws marks) x q → p ≤ q)
+  star-lowest x p s (at-exchange b e) = (at-exchange b e, λ q g. elim g [ at-exchange c k ↦ omega arith | at-below d r w ↦ absurd (d b) ])
+  star-lowest x p s (at-below d r w) =
+      let f = facts (pol .accepted) in
+      let type = f .child-inside x 0 (s .type) (omega (arith, f .star-one x s)) in (
+        at-below d r (kept-below (childAt ws x 0) p type w),
+        λ q g. elim g [ at-exchange c k ↦ absurd (d c) | at-below c k v ↦ omega (arith, w .is, right (childAt ws x 0) type .least q v) ],
+      )
+
   lowest : (k : Condition) (s : Spot) (p : ℕ) → BreachOf ws marks (Kept low) k s p
       → BreachOf ws marks (ForbiddenBelow ws marks) k s p × ((q : ℕ) → BreachOf ws marks (ForbiddenBelow ws marks) k s q → p ≤ q)
   lowest None s p h = absurd h
   lowest InsertDelete s p h =
-      let x = s .element in
-      let f = facts (pol .accepted) in
-      let type = f .child-inside x 0 (h .star .type) (omega (arith, f .star-one x (h .star))) in (
-        record { star = h .star; zero-i = h .zero-i; zero-j = h .zero-j; insert = h .insert; delete = h .delete; below = kept-below (childAt ws x 0) p type (h .below) },
-        λ q g. omega (arith, h .below .is, right (childAt ws x 0) type .least q (g .below)),
-      )
+      let r = star-lowest (s .element) p (h .star) (h .broken) in
+      (record { star = h .star; zero-i = h .zero-i; zero-j = h .zero-j; broken = r .0 }, λ q g. r .1 q (g .broken))
   lowest Chain s p h = (h, λ q g. omega (arith, h .is, g .is))
   lowest Cycle s p h =
       let x = s .element in

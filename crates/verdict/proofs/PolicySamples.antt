@@ -7,7 +7,7 @@ use mathlib.Core.List.{List, [], _∷_, map}
 use lib.Dec.{T}
 use Rattle.table.specs.Sum.{sumBelow}
 use Rattle.table.specs.Rule.{ruleOf, ruleAt, childrenAt, countOf}
-use Rattle.table.specs.Privilege.{privilegesAt, firstPrivilege, privileges, replaceOf}
+use Rattle.table.specs.Privilege.{gapOf, privilegesAt, firstPrivilege, privileges, replaceOf}
 use Rattle.table.proofs.Tables.{Each, each-computed, marksOf, lone, four, figure, hospital}
 use Rattle.table.proofs.Test.{Test, and-out}
 use Rattle.policy.specs.Marks.{Policy}
@@ -63,7 +63,7 @@ abbrev again : Row → Row
 again r = record { words = r .words; marks = r .marks; breach = verdictBy (r .words) (r .marks) }
 
 computed : map again rows ≡ rows
-unfolding sumBelow ruleOf ruleAt childrenAt countOf privilegesAt firstPrivilege privileges replaceOf
+unfolding sumBelow ruleOf ruleAt childrenAt countOf gapOf privilegesAt firstPrivilege privileges replaceOf
 computed = refl
 
 pub samples : Each Right rows
@@ -80,7 +80,7 @@ each-by t (r ∷ rs) h = let b = and-out (t r .run) (all t rs) h in (t r .out (b
 
 -- the words of each row are a table, and its marks fit
 pub policies : Each (λ r. Policy (r .words) (r .marks)) rows
-unfolding sumBelow ruleOf ruleAt childrenAt countOf privilegesAt firstPrivilege privileges replaceOf
+unfolding sumBelow ruleOf ruleAt childrenAt countOf gapOf privilegesAt firstPrivilege privileges replaceOf
 policies = each-by (λ r. policy (r .words) (r .marks)) rows tt
 
 -- the breaches that the two papers name in their first policies
@@ -115,5 +115,5 @@ named =
     table1 b = row hospital 11_2_12_21_21_21_2_1_2_1 b
 
 pub breaches : Each (λ r. IsBreach (r .words) (r .marks) (spotOf (r .breach)) (r .breach .privilege)) named
-unfolding sumBelow ruleOf ruleAt childrenAt countOf privilegesAt firstPrivilege privileges replaceOf
+unfolding sumBelow ruleOf ruleAt childrenAt countOf gapOf privilegesAt firstPrivilege privileges replaceOf
 breaches = each-by (λ r. breach (r .words) (r .marks) (spotOf (r .breach)) (r .breach .privilege)) named tt

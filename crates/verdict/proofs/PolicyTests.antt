@@ -11,16 +11,17 @@ use lib.Dec.{T}
 use lib.ListN.{length, getD}
 use Rattle.table.specs.Words.{types}
 use Rattle.table.specs.Rule.{countOf, childAt}
-use Rattle.table.specs.Privilege.{privileges, insertOf, deleteOf, replaceOf, replace}
+use Rattle.table.specs.Privilege.{privileges, insertOf, deleteOf, exchangeOf, replaceOf, exchange, replace}
 use Rattle.table.proofs.Privileges.{belongs-below, edit-below}
 use Rattle.table.specs.Check.{Accepted}
-use Rattle.table.proofs.Test.{Test, isAtMost, isEqual, both, means, some, every}
+use Rattle.table.proofs.Test.{Test, isAtMost, isEqual, both, either, fails, means, some, every}
 use Rattle.table.proofs.Answers.{accepted-answer}
-use Rattle.table.proofs.TableTests.{ofKind, replaceable, belongs, answerOf, answer-of}
+use Rattle.table.proofs.TableTests.{ofKind, exchangeable, replaceable, belongs, answerOf, answer-of}
 use Rattle.policy.specs.Marks.{Allowed, Forbidden, Fit, Policy}
 use Rattle.verdict.specs.Below.{PrivilegeBelow, ForbiddenBelow}
 use Rattle.policy.specs.Reached.{Step, Reached}
-use Rattle.verdict.specs.Breaches.{conditionNumber, noBreach, Spot, InsertDeleteBreach, ChainBreach, CycleBreach, BreachOf, IsBreach}
+use Rattle.policy.specs.Renewed.{Both, Renewed, by-both, by-exchange, Barred}
+use Rattle.verdict.specs.Breaches.{conditionNumber, noBreach, Spot, StarBroken, at-exchange, at-below, InsertDeleteBreach, ChainBreach, CycleBreach, BreachOf, IsBreach}
 use Rattle.verdict.specs.Breaches.{Lex, less, same, Verdict, clean, broken}
 use Rattle.verdict.specs.declared.Breach.{Breach}
 use Rattle.verdict.specs.declared.Condition.{Condition}
@@ -72,16 +73,33 @@ module _ (ws marks : List ℕ) where
   abbrev pub reached : (x i j : ℕ) → Test (Reached ws (Allowed marks) x i j)
   reached x = closure (countOf ws x) (λ i j s. s .can .to) (step x)
 
+  -- what breaks a star
+  abbrev pub bothAllowed : (x : ℕ) → Test (Both ws (Allowed marks) x)
+  bothAllowed x = means (λ h. record { insert = h .0; delete = h .1 }) (λ h. (h .insert, h .delete))
+      (both (allowed marks (insertOf ws x)) (allowed marks (deleteOf ws x)))
+
+  abbrev pub renewed : (x : ℕ) → Test (Renewed ws (Allowed marks) x)
+  renewed x = means (λ h. elim h [ inl b ↦ by-both b | inr (c, a) ↦ by-exchange c a ]) (λ r. elim r [ by-both b ↦ inl b | by-exchange c a ↦ inr (c, a) ])
+      (either (bothAllowed x) (both (exchangeable ws x) (allowed marks (exchangeOf ws x))))
+
+  abbrev pub barred : (x : ℕ) → Test (Barred ws marks x)
+  barred x = means (λ h. record { can = h .0; both = h .1 .0; forbidden = h .1 .1 }) (λ h. (h .can, (h .both, h .forbidden)))
+      (both (exchangeable ws x) (both (bothAllowed x) (forbidden marks (exchangeOf ws x))))
+
   -- a breach of each condition: what is cheapest to test stands first
   abbrev Here : ℕ → ℕ → Type 0
   Here = ForbiddenBelow ws marks
 
+  abbrev starBroken : (x p : ℕ) → Test (StarBroken ws marks Here x p)
+  starBroken x p = means (λ h. elim h [ inl (b, e) ↦ at-exchange b e | inr (d, (r, w)) ↦ at-below d r w ])
+      (λ f. elim f [ at-exchange b e ↦ inl (b, e) | at-below d r w ↦ inr (d, (r, w)) ])
+      (either (both (barred x) (isEqual p (exchangeOf ws x))) (both (fails (barred x)) (both (renewed x) (forbiddenBelow (childAt ws x 0) p))))
+
   abbrev pub insertDeleteBreach : (s : Spot) (p : ℕ) → Test (InsertDeleteBreach ws marks Here s p)
   insertDeleteBreach s p = means
-      (λ h. record { zero-i = h .0; zero-j = h .1 .0; star = h .1 .1 .0; insert = h .1 .1 .1 .0; delete = h .1 .1 .1 .1 .0; below = h .1 .1 .1 .1 .1 })
-      (λ h. (h .zero-i, (h .zero-j, (h .star, (h .insert, (h .delete, h .below))))))
-      (both (isEqual (s .i) 0) (both (isEqual (s .j) 0) (both (ofKind ws (s .element) 4) (both (allowed marks (insertOf ws (s .element)))
-      (both (allowed marks (deleteOf ws (s .element))) (forbiddenBelow (childAt ws (s .element) 0) p))))))
+      (λ h. record { zero-i = h .0; zero-j = h .1 .0; star = h .1 .1 .0; broken = h .1 .1 .1 })
+      (λ h. (h .zero-i, (h .zero-j, (h .star, h .broken))))
+      (both (isEqual (s .i) 0) (both (isEqual (s .j) 0) (both (ofKind ws (s .element) 4) (starBroken (s .element) p))))
 
   abbrev pub chainBreach : (s : Spot) (p : ℕ) → Test (ChainBreach ws marks s p)
   chainBreach s p = means
@@ -162,6 +180,10 @@ module _ (ws marks : List ℕ) where
   listed-in (x ∷ c ∷ i ∷ j ∷ p ∷ []) h = ap (λ (n : ℕ). x ∷ n ∷ i ∷ j ∷ p ∷ []) (number-of c (h .1 .0))
   listed-in (x ∷ c ∷ i ∷ j ∷ p ∷ q ∷ s) h = absurd (h .1 .1 .1 .1 .1)
 
+  broken-below : {x p : ℕ} → StarBroken ws marks (Here ws marks) x p → p < privileges ws
+  broken-below {x} (at-exchange b e) = rw e (edit-below ws (exchange x) (b .can))
+  broken-below (at-below d r w) = belongs-below (w .below .belongs)
+
   listed-inside : (s : Spot) (p : ℕ) → IsBreach ws marks s p → Inside keys (listed s p)
   listed-inside s p is = go (breach-cases ws marks (Here ws marks) s p is)
     where
@@ -170,7 +192,7 @@ module _ (ws marks : List ℕ) where
 
       go : Cases ws marks (Here ws marks) s p → Inside keys (listed s p)
       go (inl (e, h)) =
-          at e (h .star .type, (omega arith, (omega (arith, h .zero-i), (omega (arith, h .zero-j), (belongs-below (h .below .below .belongs), tt)))))
+          at e (h .star .type, (omega arith, (omega (arith, h .zero-i), (omega (arith, h .zero-j), (broken-below (h .broken), tt)))))
       go (inr (inl (e, h))) =
           at e (h .choice .type, (omega arith, (h .can .from, (h .can .to, (rw (h .is) (edit-below ws (replace (s .element) (s .i) (s .j)) (h .can)), tt)))))
       go (inr (inr (e, h))) =

@@ -5,6 +5,8 @@ use mathlib.Core.Path.{_≡_, ap, _∙_}
 use mathlib.Core.List.{List}
 use native.Mathlib.Omega.{arith}
 use Rattle.table.specs.Words.{types}
+use Rattle.table.specs.Rule.{IsStar}
+use Rattle.table.specs.Privilege as table
 use Rattle.table.specs.Privilege.{Edit, insert, delete, replace, typeOf, Offers, privilegeOf}
 use Rattle.table.specs.Check.{Accepted}
 use Rattle.table.specs.steps.Childed.{Childed}
@@ -16,8 +18,9 @@ use Rattle.table.proofs.Renumber.{renumbered}
 use Rattle.policy.specs.Marks.{Allowed, Forbidden, Policy}
 use Rattle.verdict.specs.Below.{PrivilegeBelow}
 use Rattle.policy.specs.Reached.{Step}
+use Rattle.policy.specs.Renewed.{Both, Renewed, by-both, by-exchange}
 use Rattle.verdict.specs.Conditions.{Clean}
-use Rattle.verdict.specs.Forces.{Forces, insert-delete, chain, cycle}
+use Rattle.verdict.specs.Forces.{Forces, exchange, renewal, chain, cycle}
 use Rattle.verdict.specs.Carried.{Carried}
 use Rattle.policy.proofs.Closures.{plus-map}
 use Rattle.verdict.proofs.Forced.{forced-below, clean-forces, forces-clean}
@@ -44,10 +47,20 @@ module _ {f g : ℕ → ℕ} {ws vs marks carried : List ℕ} (r : Renumbered f 
   step-there : {x : ℕ} (i j : ℕ) → Step ws (Allowed marks) x i j → Step vs (Allowed carried) (f x) i j
   step-there {x} i j s = record { can = offers-there r c d (replace x i j) (s .can); allowed = m .keeps (replace x i j) (s .can) ∙ s .allowed }
 
+  both-there : {x : ℕ} → IsStar ws x → Both ws (Allowed marks) x → Both vs (Allowed carried) (f x)
+  both-there {x} s h = record { insert = m .keeps (insert x) s ∙ h .insert; delete = m .keeps (delete x) s ∙ h .delete }
+
+  renewed-there : {x : ℕ} → IsStar ws x → Renewed ws (Allowed marks) x → Renewed vs (Allowed carried) (f x)
+  renewed-there s (by-both h) = by-both (both-there s h)
+  renewed-there {x} s (by-exchange n h) = by-exchange (offers-there r c d (table.exchange x) n) (m .keeps (table.exchange x) n ∙ h)
+
   -- a forced privilege is that of an edit, and the same edit's is forced afterwards
   forces-there : (e : Edit) → Offers ws e → Forces ws (Allowed marks) (privilegeOf ws e) → Forces vs (Allowed carried) (privilegeOf vs (moved f e))
-  forces-there e o (insert-delete x s i j w) =
-      insert-delete (f x) (kind-there r c d s) (m .keeps (insert x) s ∙ i) (m .keeps (delete x) s ∙ j)
+  forces-there e o (exchange x n h q) =
+      let same : e ≡ table.exchange x = edit-one ws e (table.exchange x) o n q in
+      exchange (f x) (offers-there r c d (table.exchange x) n) (both-there (n .star) h) (ap (λ (h : Edit). privilegeOf vs (moved f h)) same)
+  forces-there e o (renewal x s n w) =
+      renewal (f x) (kind-there r c d s) (renewed-there s n)
       (rw (position-there r c d 0 (s .type) (omega (arith, facts a .star-one x s))) (privilege-there e o w))
   forces-there e o (chain x i j s t n q) =
       let same : e ≡ replace x i j = edit-one ws e (replace x i j) o n q in

@@ -1,12 +1,13 @@
--- A breach, the stated order of breaches, the first breach and the verdict (document 01, "The three conditions"). Assumes nothing.
+-- A breach, the stated order of breaches, the first breach and the verdict (document 01, "The three conditions"; document 02, order 9). Assumes nothing.
 use Prim.Native.Nat.{ℕ, _≤_, _<_}
 use mathlib.Core.Path.{_≡_}
 use mathlib.Core.List.{List, [], _∷_}
 use Rattle.table.specs.Rule.{IsChoice, IsStar, childAt}
-use Rattle.table.specs.Privilege.{insertOf, deleteOf, replaceOf, Replaceable}
+use Rattle.table.specs.Privilege.{exchangeOf, replaceOf, Replaceable}
 use Rattle.policy.specs.Marks.{Allowed, Forbidden}
 use Rattle.verdict.specs.Below.{ForbiddenBelow}
 use Rattle.policy.specs.Reached.{Reached}
+use Rattle.policy.specs.Renewed.{Renewed, Barred}
 use Rattle.verdict.specs.Conditions.{Clean}
 use Rattle.verdict.specs.declared.Breach.{Breach}
 use Rattle.verdict.specs.declared.Condition.{Condition}
@@ -34,14 +35,17 @@ abbrev pub spotOf : Breach → Spot
 spotOf b = record { condition = b .condition; element = b .element; i = b .i; j = b .j }
 
 -- Privilege p breaks a condition at the spot s. B y p says that p is forbidden below type y; in a policy it is ForbiddenBelow.
--- condition 1: i and j are 0
+-- condition 1: "where the replace itself is forbidden it is condition 1's privilege", whatever is forbidden below the child
+pub data StarBroken (ws marks : List ℕ) (B : ℕ → ℕ → Type 0) (x p : ℕ) : Type 0 where
+  at-exchange : Barred ws marks x → p ≡ exchangeOf ws x → StarBroken ws marks B x p
+  at-below : ¬ Barred ws marks x → Renewed ws (Allowed marks) x → B (childAt ws x 0) p → StarBroken ws marks B x p
+
+-- i and j are 0
 pub record InsertDeleteBreach (ws marks : List ℕ) (B : ℕ → ℕ → Type 0) (s : Spot) (p : ℕ) : Type 0 where
   pub star : IsStar ws (s .element)
   pub zero-i : s .i ≡ 0
   pub zero-j : s .j ≡ 0
-  pub insert : Allowed marks (insertOf ws (s .element))
-  pub delete : Allowed marks (deleteOf ws (s .element))
-  pub below : B (childAt ws (s .element) 0) p
+  pub broken : StarBroken ws marks B (s .element) p
 
 -- condition 2: p is the forbidden replacement
 pub record ChainBreach (ws marks : List ℕ) (s : Spot) (p : ℕ) : Type 0 where

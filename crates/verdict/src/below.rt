@@ -10,7 +10,8 @@ ghost use Rattle.verdict.specs.Below.{ForbiddenBelow};
 ghost use Rattle.verdict.specs.steps.Lows.{ForbiddenOwn, Low, Range, Least, Lows, Kept, FoundBelow};
 use policy::marks::none_above;
 use table::Found;
-use table::privilege::privileges_at;
+use table::privilege::gap_of;
+use table::privilege::privileges_in;
 use table::rule::children;
 use table::words::types;
 use table::words::word_at;
@@ -38,11 +39,12 @@ fn own_lows(words: &[u16], marks: &[u8], low: &mut [u16; 256])
     requires { ⌜ Policy (now words) (now marks) × (length (now low) ≡ 256) ⌝ }
     ensures { λ _. ⌜ Lows (now (words .entry)) (ForbiddenOwn (now (words .entry)) (now (marks .entry))) (now (low .entry)) (now (low .exit)) ⌝ }
 {
+    let gap = gap_of(words);
     let e = types(words);
     let mut first = 0;
     let mut x = 0;
     while x < e {
-        let next = first + privileges_at(words, x);
+        let next = first + privileges_in(words, x, gap);
         low[x] = forbidden_from(marks, first, next);
         first = next;
         x += 1;

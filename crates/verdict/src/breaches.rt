@@ -5,30 +5,32 @@ ghost use Prim.Native.Nat.{_<_};
 ghost use Rattle.table.specs.Words.{types};
 ghost use Rattle.table.specs.Rule.{IsChoice, IsStar, countOf};
 ghost use Rattle.table.specs.Privilege.{firstPrivilege};
-ghost use Rattle.table.specs.steps.Numbering.{NumberedAs};
+ghost use Rattle.table.specs.steps.Numbering.{NumberedAs, Small};
 ghost use Rattle.table.specs.steps.Found.{Tells};
 ghost use Rattle.table.specs.steps.Order.{BottomUp};
 ghost use Rattle.policy.specs.Marks.{Allowed, Policy};
 ghost use Rattle.policy.specs.Reached.{Reached};
-ghost use Rattle.policy.specs.steps.Squares.{Square, ForbiddenIn, Small};
+ghost use Rattle.policy.specs.Renewed.{Renewed, Barred};
+ghost use Rattle.policy.specs.steps.Squares.{Square, ForbiddenIn};
 ghost use Rattle.verdict.specs.Breaches.{noBreach, BreachBy, Verdict};
 ghost use Rattle.verdict.specs.steps.Lows.{Kept};
-ghost use Rattle.verdict.specs.steps.Visits.{Visited, Broken, FirstPair, Searched, BreachAt, CycleAt};
+ghost use Rattle.verdict.specs.steps.Visits.{brokenStar, Visited, Broken, FirstPair, Searched, BreachAt, CycleAt};
 use super::Breach;
 use super::Condition;
 use super::below::forbidden_below;
 use super::below::forbidden_lows;
-use policy::marks::mark_at;
 use policy::reach::reached_by;
+use policy::renew::Renewal;
+use policy::renew::renewal_of;
 use policy::rows::first_shared;
 use policy::rows::leads;
 use policy::rows::read_rows;
 use table::Found;
 use table::privilege::Numbering;
-use table::privilege::deletion;
-use table::privilege::insertion;
+use table::privilege::exchange;
+use table::privilege::gap_of;
 use table::privilege::numbers_at;
-use table::privilege::privileges_at;
+use table::privilege::privileges_in;
 use table::privilege::replacement;
 use table::rule::Rule;
 use table::rule::children;
@@ -95,6 +97,31 @@ fn first_broken(marks: &[u8], n: Numbering, square: &[u16; 16], forbidden: &[u16
     found
 }
 
+// A breach of condition 1 at the star x.
+fn star_broken(x: usize, privilege: usize) -> Breach
+    ensures { λ r. ⌜ r ≡ brokenStar x privilege ⌝ }
+{
+    Breach {
+        condition: Condition::InsertDelete,
+        element: x,
+        i: 0,
+        j: 0,
+        privilege: privilege,
+    }
+}
+
+// The first breach at the star x, whose child can be renewed, and whose exchange is not the one that breaks it.
+fn renewed_breach(words: &[u16], marks: &[u8], low: &[u16; 256], x: usize, kids: &[u16]) -> Breach
+    requires { ⌜ Visited (now words) (now marks) x (now kids) × IsStar (now words) x × (Barred (now words) (now marks) x → ⊥) × Renewed (now words) (Allowed (now marks)) x ⌝ }
+    ensures { λ r. ⌜ Searched (BreachAt (now (words .entry)) (now (marks .entry)) (Kept (now (low .entry))) x) r ⌝ }
+{
+    let found = forbidden_below(low, word_at(kids, 0));
+    if let Found::At(privilege) = found {
+        return star_broken(x, privilege);
+    }
+    no_breach()
+}
+
 // The first breach at the star x.
 pub fn star_breach(
     words: &[u16],
@@ -107,23 +134,12 @@ pub fn star_breach(
     requires { ⌜ Visited (now words) (now marks) x (now kids) × NumberedAs (now words) x n × IsStar (now words) x ⌝ }
     ensures { λ r. ⌜ Searched (BreachAt (now (words .entry)) (now (marks .entry)) (Kept (now (low .entry))) x) r ⌝ }
 {
-    if mark_at(marks, insertion(n)) != 1 {
-        return no_breach();
+    let renewal = renewal_of(marks, n);
+    match renewal {
+        Renewal::Shut => no_breach(),
+        Renewal::Barred => star_broken(x, exchange(n)),
+        Renewal::Open => renewed_breach(words, marks, low, x, kids),
     }
-    if mark_at(marks, deletion(n)) != 1 {
-        return no_breach();
-    }
-    let found = forbidden_below(low, word_at(kids, 0));
-    if let Found::At(privilege) = found {
-        return Breach {
-            condition: Condition::InsertDelete,
-            element: x,
-            i: 0,
-            j: 0,
-            privilege: privilege,
-        };
-    }
-    no_breach()
 }
 
 // The first breach of condition 3 at the choice x, whose square tells what is reached.
@@ -198,7 +214,7 @@ fn choice_breach(
 {
     let mut allowed = [0u16; 16];
     let mut forbidden = [0u16; 16];
-    read_rows(kids, marks, n, &mut allowed, &mut forbidden);
+    read_rows(marks, n, &mut allowed, &mut forbidden);
     let square = reached_by(words, marks, x, n, allowed);
     breach_in(words, marks, low, x, kids, n, &square, &forbidden)
 }
@@ -241,6 +257,7 @@ fn breach_by(words: &[u16], marks: &[u8], low: &[u16; 256]) -> Breach
     requires { ⌜ Policy (now words) (now marks) ⌝ }
     ensures { λ r. ⌜ Searched (BreachBy (now (words .entry)) (now (marks .entry)) (Kept (now (low .entry)))) r ⌝ }
 {
+    let gap = gap_of(words);
     let e = types(words);
     let mut first = 0;
     let mut x = 0;
@@ -248,7 +265,7 @@ fn breach_by(words: &[u16], marks: &[u8], low: &[u16; 256]) -> Breach
         let breach = breach_at(words, marks, low, x, first);
         let condition = breach.condition;
         if let Condition::None = condition {
-            first += privileges_at(words, x);
+            first += privileges_in(words, x, gap);
             x += 1;
         } else {
             return breach;

@@ -2,13 +2,12 @@
 
 use super::coverage::Coverage;
 use crate::answers::Answer;
-use crate::dtd::declared;
 use crate::dtd::faults::Fault;
+use crate::dtd::{declared, Declared};
 use crate::dtd_case::{DtdCase, CALLS, KIND};
 use crate::making::dtds::aimed::ways;
 use crate::making::dtds::tables::first_wrong_name;
 use crate::making::dtds::{known_cases, Known};
-use crate::making::schemas::encode;
 use crate::self_check::expect;
 use crate::stream::{take, to_bytes};
 
@@ -49,7 +48,7 @@ fn self_streamed(case: &DtdCase) {
 fn self_case(case: &DtdCase, known: &Known, coverage: &mut Coverage) {
     let told = (CALLS[0].make)(case);
     let declared = declared(&case.text);
-    let words = declared.as_ref().map_or(Vec::new(), |declared| encode(&declared.types));
+    let words = declared.as_ref().map_or(Vec::new(), Declared::words);
     self_known(known, &told.answer);
     self_written(case, told.answer.number, &words, &told.written[0]);
     self_streamed(case);

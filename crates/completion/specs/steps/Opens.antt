@@ -1,17 +1,16 @@
--- What an allowed set opens: everything at a type below a child that can be deleted and inserted anew, or replaced and replaced back. Assumes
--- nothing.
+-- What an allowed set opens: everything at a type below a child that can be renewed, or replaced and replaced back. Assumes nothing.
 use Prim.Native.Nat.{ℕ}
 use mathlib.Core.Path.{_≡_}
 use mathlib.Core.Logic.{_⊎_}
 use mathlib.Core.List.{List}
 use Rattle.table.specs.Rule.{IsChoice, IsStar, childAt}
-use Rattle.table.specs.Privilege.{insertOf, deleteOf}
 use Rattle.table.specs.Below.{Below}
 use Rattle.policy.specs.Reached.{Reached}
+use Rattle.policy.specs.Renewed.{Renewed}
 
 -- x opens the child at i
 pub data OpensAt (ws : List ℕ) (S : ℕ → Type 0) (x i : ℕ) : Type 0 where
-  star : IsStar ws x → S (insertOf ws x) → S (deleteOf ws x) → i ≡ 0 → OpensAt ws S x i
+  star : IsStar ws x → Renewed ws S x → i ≡ 0 → OpensAt ws S x i
   cycle : IsChoice ws x → Reached ws S x i i → OpensAt ws S x i
 
 -- type y is opened: it is below a child that some type opens

@@ -7,8 +7,6 @@ use Rattle.table.specs.steps.Found.{Tells}
 use Rattle.table.specs.Words.{types}
 use Rattle.table.specs.Rule.{childrenAt}
 use Rattle.table.specs.Privilege.{firstPrivilege, privileges}
-use Rattle.table.specs.steps.Numbering.{insertIn, deleteIn}
-use Rattle.table.specs.declared.privilege.Numbering.{Numbering}
 use Rattle.policy.specs.Marks.{Allowed, Policy}
 use Rattle.completion.specs.Granted.{Granted}
 use Rattle.completion.specs.steps.Opens.{Opened, PassesOn}
@@ -24,11 +22,6 @@ pub record Visited (ws marks : List ℕ) (x first : ℕ) (kids opened out : List
   pub size : length opened ≡ 256
   pub told : Tells (Opened ws (Allowed marks) x) (isOpen opened x)
   pub room : privileges ws ≤ length out
-
--- the insert and the delete by this numbering are both allowed
-pub record Both (marks : List ℕ) (n : Numbering) : Type 0 where
-  pub insert : Allowed marks (insertIn n)
-  pub delete : Allowed marks (deleteIn n)
 
 -- what it opens is passed on to its children, and its own marks are written
 pub record Done (ws marks : List ℕ) (x : ℕ) (opened out opened-after out-after : List ℕ) : Type 0 where

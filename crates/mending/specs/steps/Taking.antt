@@ -9,6 +9,8 @@ use Rattle.table.specs.Words.{types}
 use Rattle.table.specs.Rule.{childrenAt}
 use Rattle.table.specs.steps.Numbering.{NumberedAs, replaceIn}
 use Rattle.table.specs.declared.privilege.Numbering.{Numbering}
+use Rattle.table.specs.declared.Found.{Found}
+use Rattle.table.specs.declared.Found.the-variants.{At, Nothing}
 use Rattle.policy.specs.Marks.{Policy}
 use Rattle.policy.specs.steps.Squares.{marked, StepIn}
 use Rattle.verdict.specs.Below.{ForbiddenBelow}
@@ -63,6 +65,11 @@ pub record TakenAt (ws m : List ℕ) (x p : ℕ) : Type 0 where
   pub first : FirstSpot (IsBreach ws m) spot
   pub here : spot .element ≡ x
   pub takes : Takes ws m spot p
+
+-- what the rule takes next at the star x, or none where x has no breach
+abbrev pub StarTaken : List ℕ → List ℕ → ℕ → Found → Type 0
+StarTaken ws m x (At p) = TakenAt ws m x p
+StarTaken ws m x Nothing = CleanUpTo ws m (x + 1)
 
 -- the replacement that the rule takes next at the choice x, or none where x has no breach
 abbrev pub NextTaken : List ℕ → List ℕ → ℕ → Numbering → Pair → Type 0

@@ -1,12 +1,12 @@
--- Eight marks as one number, two bits for each, and the bits that are gathered of it; a row of bits with a gap opened at a position, or closed.
--- Assumes nothing.
+-- Eight marks as one number, two bits for each, and the bits that are gathered of it; marks one by one; a row of bits with a gap opened at a position, or
+-- closed. Assumes nothing.
 use Prim.Native.Nat.{ℕ, suc, _+_, _*_, _/_, _%_, _≤_, _<_}
 use mathlib.Core.Path.{_≡_}
 use mathlib.Core.Bool.{false}
 use mathlib.Core.List.{List}
 use lib.ListN.{getD}
 use Rattle.table.specs.steps.Found.{Tells}
-use Rattle.policy.specs.steps.Squares.{bit}
+use Rattle.policy.specs.steps.Squares.{bit, AskedAt}
 
 -- four marks from a place on, a byte for each
 abbrev pub fourAt : List ℕ → ℕ → ℕ
@@ -33,12 +33,17 @@ pub record Sixteen (first second r : ℕ) : Type 0 where
   pub low : (k : ℕ) → k < 8 → bit r k ≡ bit first (placeOf k)
   pub high : (k : ℕ) → k < 8 → bit r (8 + k) ≡ bit second (placeOf k)
 
--- a row of n positions: bits side by side, but for a 0 put in at position i
-pub record Opened (n i bits row : ℕ) : Type 0 where
+-- some marks from a place on: the lower sixteen bits tell which are 1, and the upper ones which are 2
+pub record Flagged (marks : List ℕ) (at size r : ℕ) : Type 0 where
+  pub ones : (k : ℕ) → k < size → Tells (AskedAt marks at 1 k) (bit r k)
+  pub twos : (k : ℕ) → k < size → Tells (AskedAt marks at 2 k) (bit (r / 65536) k)
+
+-- a row: the first `width` of the bits side by side, but for a 0 put in at position i, if they are as many
+pub record Opened (width i bits row : ℕ) : Type 0 where
   pub fits : row < 65536
-  pub before : (j : ℕ) → j < i → bit row j ≡ bit bits j
+  pub before : (j : ℕ) → j < i → j < width → bit row j ≡ bit bits j
   pub here : bit row i ≡ false
-  pub behind : (j : ℕ) → i ≤ j → suc j < n → bit row (suc j) ≡ bit bits j
+  pub behind : (j : ℕ) → i ≤ j → j < width → bit row (suc j) ≡ bit bits j
 
 -- the bits of a row but the one at i, side by side
 pub record Closed (i row bits : ℕ) : Type 0 where

@@ -1,6 +1,6 @@
 -- A relation on the positions of a choice, kept as 16 rows of 16 bits; the steps at a choice by its numbering; and what each part of reading,
 -- closing and writing does to rows. Assumes nothing.
-use Prim.Native.Nat.{ℕ, _/_, _%_, _^_, _≤_, _<_}
+use Prim.Native.Nat.{ℕ, _+_, _/_, _%_, _^_, _≤_, _<_}
 use mathlib.Core.Path.{_≡_}
 use mathlib.Core.Logic.{_≢_, _⊎_}
 use mathlib.Core.Bool.{Bool, true, not, _||_, _&&_}
@@ -8,7 +8,7 @@ use mathlib.Core.List.{List}
 use lib.Dec.{eqb}
 use lib.ListN.{length, getD, set}
 use Rattle.table.specs.steps.Found.{Tells}
-use Rattle.table.specs.steps.Numbering.{replaceIn, ReplaceableIn}
+use Rattle.table.specs.steps.Numbering.{Small, replaceIn, ReplaceableIn}
 use Rattle.table.specs.declared.privilege.Numbering.{Numbering}
 use Rattle.policy.specs.Marks.{Legal}
 
@@ -44,20 +44,10 @@ StepIn marks n i j = MarkedIn 1 marks n i j
 abbrev pub ForbiddenIn : List ℕ → Numbering → ℕ → ℕ → Type 0
 ForbiddenIn marks n i j = MarkedIn 2 marks n i j
 
--- the mark of that privilege, or 0 where there is none
-pub data MarkIn (marks : List ℕ) (n : Numbering) (i j r : ℕ) : Type 0 where
-  there : ReplaceableIn n i j → r ≡ getD marks (replaceIn n i j) 0 → MarkIn marks n i j r
-  none : ¬ ReplaceableIn n i j → r ≡ 0 → MarkIn marks n i j r
-
 -- a number that is 1 where P holds, and else 0
 pub data Flags (P : Type 0) (r : ℕ) : Type 0 where
   on : P → r ≡ 1 → Flags P r
   off : ¬ P → r ≡ 0 → Flags P r
-
--- a choice of at most 16 children, numbered low
-pub record Small (n : Numbering) : Type 0 where
-  pub low : n .first ≤ 4096
-  pub few : n .count ≤ 16
 
 -- room for the replacements of a choice
 pub record Room (n : Numbering) (marks : List ℕ) : Type 0 where
@@ -73,6 +63,10 @@ pub record Readable (n : Numbering) (marks : List ℕ) : Type 0 where
 pub record Row (n : ℕ) (P : ℕ → Type 0) (row : ℕ) : Type 0 where
   pub fits : row < 65536
   pub tells : (j : ℕ) → j < n → Tells (P j) (bit row j)
+
+-- the mark at k of those from a place on is the one asked for
+abbrev pub AskedAt : List ℕ → ℕ → ℕ → ℕ → Type 0
+AskedAt marks at asked k = getD marks (at + k) 0 ≡ asked
 
 -- row i of both squares is read
 pub record RowRead (marks : List ℕ) (n : Numbering) (i : ℕ) (allowed forbidden newAllowed newForbidden : List ℕ) : Type 0 where

@@ -10,7 +10,7 @@ use Rattle.policy.specs.Marks.{Policy}
 use Rattle.verdict.specs.Breaches.{noBreach, Spot, spotOf, CycleBreach, BreachBy, Lex, key}
 use Rattle.policy.specs.steps.Squares.{marked, ForbiddenIn}
 use Rattle.verdict.specs.declared.Breach.{Breach}
-use Rattle.verdict.specs.declared.Condition.the-variants.{Cycle}
+use Rattle.verdict.specs.declared.Condition.the-variants.{InsertDelete, Cycle}
 use Rattle.verdict.specs.declared.breaches.Pair.{Pair}
 use Rattle.verdict.specs.declared.breaches.Pair.the-variants.{At, Nothing}
 
@@ -19,6 +19,10 @@ pub record Visited (ws marks : List ℕ) (x : ℕ) (kids : List ℕ) : Type 0 wh
   pub policy : Policy ws marks
   pub type : x < types ws
   pub kids-are : kids ≡ childrenAt ws x
+
+-- a breach of condition 1
+abbrev pub brokenStar : ℕ → ℕ → Breach
+brokenStar x p = record { condition = InsertDelete; element = x; i = 0; j = 0; privilege = p }
 
 -- the square leads from i to j, and i must not be replaced by j
 pub record Broken (marks : List ℕ) (n : Numbering) (square : List ℕ) (i j : ℕ) : Type 0 where

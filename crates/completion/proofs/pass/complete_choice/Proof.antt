@@ -17,7 +17,7 @@ reached-requires : tie.Need-reached-requires
 reached-requires c κs =
     let pre = c .before .before .before .before .before .pre in
     let visit = pre .0 in
-    (visit .policy, pre .2, visit .kids-are, numbered c)
+    (visit .policy, pre .2, numbered c)
 
 open-cycles-requires : tie.Need-open-cycles-requires
 open-cycles-requires c κs =

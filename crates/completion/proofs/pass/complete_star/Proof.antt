@@ -6,8 +6,9 @@ use denote.Ref.{now}
 use Rattle.table.specs.steps.Numbering.{NumberedAs}
 use Rattle.table.proofs.Facts.{has-record}
 use Rattle.table.proofs.Lowest.{told-yes, told-no}
+use Rattle.policy.proofs.Renewals.{renewed-out, renewed-into}
 use Rattle.completion.proofs.Openings.{kids-none}
-use Rattle.completion.proofs.Passing.{plain-own, star-passes, both-star, star-both, star-kids, visit-small, visit-end, visit-fits}
+use Rattle.completion.proofs.Passing.{star-own, exchange-room, star-passes, star-kids, visit-small, visit-end, visit-fits}
 use Rattle.completion.proofs.pass.complete_star.Statement.{statement}
 use Rattle.completion.proofs.pass.complete_star.Tie as tie
 
@@ -18,8 +19,8 @@ numbered c = c .numbers-at .ensures
 numbers-at-requires : tie.Need-numbers-at-requires
 numbers-at-requires c κs = let visit = c .before .before .before .before .pre .0 in (visit .policy .accepted, visit .type, visit .first-is)
 
-both-allowed-requires : tie.Need-both-allowed-requires
-both-allowed-requires c κs = numbered c .low
+is-renewed-requires : tie.Need-is-renewed-requires
+is-renewed-requires c κs = numbered c .low
 
 open-all-requires : tie.Need-open-all-requires
 open-all-requires c κs = let visit = c .before .before .before .before .before .before .before .before .pre .0 in (visit .size, visit-small visit)
@@ -37,22 +38,30 @@ write-range-requires c κs =
     let visit = c .before .before .before .before .before .before .before .before .before .pre .0 in
     omega (arith, visit-end visit (c .privileges-at .ensures .is), visit .room)
 
+write-exchange-requires : tie.Need-write-exchange-requires
+write-exchange-requires c κs =
+    let written = c .before .before .before in
+    let n = c .before .before .before .before .before .before .before .before in
+    let pre = n .before .before .before .before .before .pre in
+    (numbered n .low, exchange-room (pre .0) (written .write-range .last .0) (pre .2) (numbered n) (written .write-range .ensures .size))
+
 same-length : tie.Need-same-length
 same-length c = search needs
 
 returns : tie.Need-returns
 returns c =
-    let written = c .before .before in
+    let exchanged = c .before .before in
+    let written = exchanged .before .before .before .before in
     let joined = written .before .before .before in
-    let asked = joined .before .both-allowed in
+    let asked = joined .before .is-renewed in
     let n = joined .before .before in
     let pre = n .before .before .before .before .before .pre in
     record {
       kids = ⊎-elim
-          (λ w. rw (w .3) (star-kids (pre .0 .policy .accepted) (pre .2) (both-star (numbered n) (told-yes (asked .result) (asked .ensures) (w .0 .taken))) (rw (pre .0 .kids-are) at (w .2 .ensures))))
-          (λ w. rw (w .1) (kids-none (pre .0 .size) (λ i l g. told-no (asked .result) (asked .ensures) (w .0 .left) (star-both (numbered n) (star-passes (pre .1) (pre .2) g)))))
+          (λ w. rw (w .3) (star-kids (pre .0 .policy .accepted) (pre .2) (renewed-out (numbered n) (pre .2) (told-yes (asked .result) (asked .ensures) (w .0 .taken))) (rw (pre .0 .kids-are) at (w .2 .ensures))))
+          (λ w. rw (w .1) (kids-none (pre .0 .size) (λ i l g. told-no (asked .result) (asked .ensures) (w .0 .left) (renewed-into (numbered n) (star-passes (pre .1) (pre .2) g)))))
           (joined .if1 .came);
-      own = plain-own (pre .0) (pre .1) (λ e. omega (arith, e, pre .2 .kind-is)) (written .before .privileges-at .ensures .is) (written .write-range .ensures);
+      own = star-own (pre .0) (pre .1) (pre .2) (numbered n) (written .before .privileges-at .ensures .is) (written .write-range .ensures) (exchanged .write-exchange .ensures);
     }
 
 pub complete-star-spec : {M : Type 1} → statement M
@@ -60,10 +69,11 @@ complete-star-spec =
     tie.close
     (tie.spec
     numbers-at-requires
-    both-allowed-requires
+    is-renewed-requires
     open-all-requires
     privileges-at-requires
     add-write-range
     write-range-requires
+    write-exchange-requires
     same-length
     returns)

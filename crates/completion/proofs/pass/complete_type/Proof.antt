@@ -122,7 +122,7 @@ returns-4 c =
     let neither = plain arm in
     record {
       kids = kids-none (start .pre .size) (λ i l. plain-passes (shut (read .before)) (neither .0) (neither .1));
-      own = plain-own (start .pre) (shut (read .before)) (neither .0) (written .before .privileges-at .ensures .is) (written .write-range .ensures);
+      own = plain-own (start .pre) (shut (read .before)) (neither .0) (neither .1) (written .before .privileges-at .ensures .is) (written .write-range .ensures);
     }
 
 pub complete-type-spec : {M : Type 1} → statement M

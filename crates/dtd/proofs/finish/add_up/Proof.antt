@@ -71,7 +71,7 @@ loop-again c =
     let ws = c .before .before .before .before .before .before .before .args .words .now in
     let w = c .before .before .record-word .ensures in
     let n : countAt ws (l .t) ≤ 16 = omega (arith, w .is) in
-    let f = privileges-few ws (l .t) n in
+    let f = privileges-few ws (l .t) (c .before .before .before .before .before .before .before .pre .0) n in
     (sum-step (privilegesAt ws) (l .t) (l .v) (c .privileges-at .result) (l .inv .0) (p .is), omega (arith, p .is, l .inv .1), omega arith, few-more ws (l .t) (l .inv .3) n)
 
 -- src/finish.rt:24:1

@@ -22,7 +22,7 @@ cast-words : tie.Need-cast-words
 cast-words c =
     let x = wide-is _ (c .before .v .given .1) (c .before .before .before .add-up .ensures) in
     let a = c .before .before .before .before .before .before .before .pre in
-    omega (arith, x .1, a .2)
+    omega (arith, x .1, a .3)
 
 -- src/finish.rt:76:13
 slice-write-words : tie.Need-slice-write-words

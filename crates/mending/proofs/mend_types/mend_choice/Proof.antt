@@ -7,10 +7,11 @@ use native.Mathlib.Omega.{arith}
 use Rattle.table.specs.Privilege.{privileges}
 use Rattle.table.specs.steps.Numbering.{replaceIn}
 use Rattle.policy.specs.steps.Squares.{StepIn, Read}
-use Rattle.policy.proofs.SquareLaws.{kids-here, policy-readable}
+use Rattle.policy.proofs.SquareLaws.{policy-readable}
 use Rattle.mending.specs.steps.Taking.{TakenAt, start}
 use Rattle.mending.proofs.Counting.{allowedIn}
 use Rattle.mending.proofs.Staying.{Mending, next-within, next-less, mending-take, mending-few}
+use Rattle.table.proofs.Privileges.{numbered-small}
 use Rattle.mending.proofs.Rows.{read-taken}
 use Rattle.mending.proofs.mend_types.mend_choice.Statement.{statement}
 use Rattle.mending.proofs.mend_types.mend_choice.Tie as tie
@@ -21,7 +22,7 @@ Inv-loop words m₀ low x kids n allowed₀ forbidden₀ count₀ m allowed forb
 abbrev μ-loop : tie.MeasureT-loop
 μ-loop words m₀ low x kids n allowed₀ forbidden₀ count₀ m allowed forbidden count = allowedIn m (privileges words)
 
--- what was told to be taken: the replacement of one position by another, both below 16
+-- what was told to be taken: the replacement of a position by one, both below 16
 told : (c : tie.After-taken Inv-loop μ-loop) → let at = c .before .before .before .before .before .before .before .before .before in let a = at .before .before .before .before .before .before .before .before .args in let i = c .taken .given .0 .0 in let k = c .taken .given .0 .1 .0 in
     StepIn (at .loop .m) (a .n) i k × TakenAt (now (a .words)) (at .loop .m) (a .x) (replaceIn (a .n) i k)
 told c = rw (c .taken .given .1) at (c .before .before .next-taken .ensures)
@@ -36,7 +37,7 @@ read-rows-requires : tie.Need-read-rows-requires Inv-loop μ-loop
 read-rows-requires c κs =
     let begin = c .before .before .before .before .before .before in
     let v = begin .pre .0 in
-    (policy-readable (v .policy) (begin .pre .1) (v .numbered), kids-here (v .policy .accepted) (v .type) (v .kids-are) (v .numbered), refl, refl)
+    (policy-readable (v .policy) (begin .pre .1) (v .numbered), refl, refl)
 
 loop-holds : tie.Need-loop-holds Inv-loop μ-loop
 loop-holds c =
@@ -81,7 +82,7 @@ replacement-requires : tie.Need-replacement-requires Inv-loop μ-loop
 replacement-requires c κs =
     let can = told (c .before) .0 .can in
     let numbered = c .before .before .before .before .before .before .before .before .before .before .before .before .before .before .before .before .before .before .pre .0 .numbered in
-    record { low = numbered .low; few = numbered .few; from = can .from; to = can .to }
+    record { small = numbered-small numbered; from = can .from; to = can .to }
 
 slice-write-m : tie.Need-slice-write-m Inv-loop μ-loop
 slice-write-m c = rw (c .replacement .ensures) (next-within (c .before .before .before .before .before .before .before .before .before .before .before .loop .inv .0) (told (c .before .before) .1))
@@ -104,7 +105,7 @@ loop-again c =
     let taken = told (c .before .before .before .before .before .before) in
     rw (c .before .before .before .before .replacement .ensures) (
       mending-take (at .loop .inv .0) (taken .1),
-      read-taken (taken .0) (next-within (at .loop .inv .0) (taken .1)) (at .loop .inv .1) (c .before .before .toggle .ensures) (c .toggle2 .ensures),
+      read-taken (at .before .before .before .before .before .before .before .before .pre .0 .numbered .narrow) (taken .0) (next-within (at .loop .inv .0) (taken .1)) (at .loop .inv .1) (c .before .before .toggle .ensures) (c .toggle2 .ensures),
     )
 
 pub mend-choice-spec : {M : Type 1} → statement M

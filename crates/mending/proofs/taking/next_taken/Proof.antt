@@ -4,6 +4,7 @@ use native.Mathlib.Omega.{arith}
 use Prim.Native.Nat.{ℕ}
 use mathlib.Core.Path.{_≡_, sym, ap, _∙_}
 use mathlib.Core.Logic.{_≢_}
+use Rattle.table.proofs.Privileges.{numbered-small}
 use Rattle.policy.proofs.Reaches.{reached-to}
 use Rattle.verdict.specs.Breaches.{conditionNumber}
 use Rattle.verdict.specs.declared.Condition.{Condition}
@@ -41,7 +42,7 @@ lowest-lead-requires c κs =
     let n = p .0 .numbered in
     let k = c .enum-told2 .given .1 in
     let r = rw (cycle-same (p .0) (found .breach-in .ensures) (cycle-is k) (p .1) k) at (choice-reached (p .0) (found .breach-in .ensures) (cycle-is k) (p .1)) in
-    (record { low = n .low; few = n .few }, omega (arith, reached-to r, n .count, n .few), some-lead n (p .1) (p .2) r, p .3 .steps)
+    (numbered-small n, omega (arith, reached-to r, n .count, n .few), some-lead n (p .1) (p .2) r, p .3 .steps)
 
 returns-2 : tie.Need-returns-2
 returns-2 c =
@@ -60,7 +61,7 @@ lowest-lead-requires-2 c κs =
     let p = found .before .before .before .before .pre in
     let n = p .0 .numbered in
     let r = choice-reached (p .0) (found .breach-in .ensures) (λ e. no-tag (rw e at (c .before .match .keys2))) (p .1) in
-    (record { low = n .low; few = n .few }, omega (arith, reached-to r, n .count, n .few), some-lead n (p .1) (p .2) r, p .3 .steps)
+    (numbered-small n, omega (arith, reached-to r, n .count, n .few), some-lead n (p .1) (p .2) r, p .3 .steps)
 
 returns-3 : tie.Need-returns-3
 returns-3 c =

@@ -16,7 +16,7 @@ shl-result : tie.Need-shl-result
 shl-result c = search needs
 
 rem-result : tie.Need-rem-result
-rem-result c = rw (shifted 16 (c .args .i) (c .pre)) (pow-pos (c .args .i))
+rem-result c = rw (shifted 32 (c .args .i) (c .pre)) (pow-pos (c .args .i))
 
 cast-result-2 : tie.Need-cast-result-2
 cast-result-2 c = search needs
@@ -25,16 +25,19 @@ shl-result-2 : tie.Need-shl-result-2
 shl-result-2 c = search needs
 
 rem-result-2 : tie.Need-rem-result-2
-rem-result-2 c = rw (shifted 16 (c .args .i) (c .pre)) (pow-pos (c .args .i))
+rem-result-2 c = rw (shifted 32 (c .args .i) (c .pre)) (pow-pos (c .args .i))
 
 sub-result : tie.Need-sub-result
 sub-result c = mod-le (c .args .row / 2) _
 
 add-result : tie.Need-add-result
-add-result c = rw (shifted 16 (c .args .i) (c .pre)) (record { fits = omega (arith, closed-few (c .args .i) (c .args .row)) })
+add-result c = rw (shifted 32 (c .args .i) (c .pre)) (record { fits = omega (arith, closed-few (c .args .i) (c .args .row)) })
+
+cast-result-3 : tie.Need-cast-result-3
+cast-result-3 c = rw (shifted 32 (c .args .i) (c .pre)) (record { fits = omega (arith, closed-few (c .args .i) (c .args .row)) })
 
 returns : tie.Need-returns
-returns c = rw (shifted 16 (c .args .i) (c .pre)) (closes (c .args .i) (c .args .row))
+returns c = rw (shifted 32 (c .args .i) (c .pre)) (closes (c .args .i) (c .args .row))
 
 pub without-gap-spec : {M : Type 1} → statement M
 without-gap-spec =
@@ -48,4 +51,5 @@ without-gap-spec =
     rem-result-2
     sub-result
     add-result
+    cast-result-3
     returns)

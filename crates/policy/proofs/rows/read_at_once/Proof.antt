@@ -1,9 +1,16 @@
--- Sixteen marks are told at once, and the gap is opened at i. Assumes nothing.
+-- Sixteen marks are told at once, and the gap is opened at the missing position. Assumes nothing.
 use borrow.Author.Needs.{needs}
 use mathlib.Core.Path.{refl}
-use Rattle.policy.proofs.Packing.{ones-tell, twos-tell, marked-row}
+use native.Mathlib.Omega.{arith}
+use Rattle.policy.proofs.RowMarks.{ones-tell, twos-tell, marked-row}
 use Rattle.policy.proofs.rows.read_at_once.Statement.{statement}
 use Rattle.policy.proofs.rows.read_at_once.Tie as tie
+
+width-requires : tie.Need-width-requires
+width-requires c κs = let p = c .before .pre in (p .0 .room .small, omega (arith, p .1))
+
+missing-requires : tie.Need-missing-requires
+missing-requires c κs = search needs
 
 eight-requires : tie.Need-eight-requires
 eight-requires c κs = search needs
@@ -42,15 +49,17 @@ returns : tie.Need-returns
 returns c =
     let allowed = c .before .before in
     let second = allowed .before .before in
-    let start = second .before .before .before in
-    let few = start .pre .0 .room .small .few in
+    let gap = second .before .before in
+    let own = gap .before in
+    let start = own .before .before in
+    let small = start .pre .0 .room .small in
     let firsts = second .before .eight .ensures in
     let seconds = second .eight2 .ensures in
     record {
       steps = allowed .with-gap .result;
       bans = c .with-gap2 .result;
-      steps-tell = marked-row few (start .pre .1) (start .pre .2) (ones-tell firsts) (ones-tell seconds) (allowed .before .sixteen .ensures) (allowed .with-gap .ensures);
-      bans-tell = marked-row few (start .pre .1) (start .pre .2) (twos-tell firsts) (twos-tell seconds) (c .before .sixteen2 .ensures) (c .with-gap2 .ensures);
+      steps-tell = marked-row small (start .pre .1) (start .pre .2) (ones-tell firsts) (ones-tell seconds) (allowed .before .sixteen .ensures) (rw (own .width .ensures, gap .missing .ensures .is) at (allowed .with-gap .ensures));
+      bans-tell = marked-row small (start .pre .1) (start .pre .2) (twos-tell firsts) (twos-tell seconds) (c .before .sixteen2 .ensures) (rw (own .width .ensures, gap .missing .ensures .is) at (c .with-gap2 .ensures));
       allowed-is = refl;
       forbidden-is = refl;
     }
@@ -59,6 +68,8 @@ pub read-at-once-spec : {M : Type 1} → statement M
 read-at-once-spec =
     tie.close
     (tie.spec
+    width-requires
+    missing-requires
     eight-requires
     add-eight
     eight-requires-2

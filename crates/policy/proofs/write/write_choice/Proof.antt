@@ -2,18 +2,18 @@
 use Prim.Native.Nat.{_-_}
 use native.Mathlib.Omega.{arith}
 use borrow.Author.Needs.{needs}
-use Rattle.policy.proofs.Writings.{RowsPairs, pairs-none, rows-more, rows-all}
+use Rattle.policy.proofs.Writings.{RowsWritten, rows-none, rows-more, rows-all}
 use Rattle.policy.proofs.write.write_choice.Statement.{statement}
 use Rattle.policy.proofs.write.write_choice.Tie as tie
 
 abbrev Inv-loop : tie.InvT-loop
-Inv-loop out₀ square n count i₀ out i = RowsPairs n square i out₀ out
+Inv-loop out₀ square n count i₀ out i = RowsWritten n square i out₀ out
 
 abbrev μ-loop : tie.MeasureT-loop
 μ-loop out₀ square n count i₀ out i = count - i
 
 loop-holds : tie.Need-loop-holds Inv-loop μ-loop
-loop-holds c = pairs-none (λ a b w r. omega arith)
+loop-holds c = rows-none
 
 write-row-requires : tie.Need-write-row-requires Inv-loop μ-loop
 write-row-requires c κs =
@@ -30,7 +30,7 @@ loop-less c = search needs
 loop-again : tie.Need-loop-again Inv-loop μ-loop
 loop-again c =
     let row = c .before .before in
-    rows-more (row .before .before .before .loop .inv) (row .write-row .ensures)
+    rows-more (row .before .before .before .before .before .pre .small .narrow) (row .before .before .before .loop .inv) (row .write-row .ensures)
 
 same-length : tie.Need-same-length Inv-loop μ-loop
 same-length c = c .before .loop .inv .size

@@ -15,10 +15,10 @@ use Rattle.table.proofs.accept.types_pass.Statement.{statement}
 use Rattle.table.proofs.accept.types_pass.Tie as tie
 
 abbrev Inv-loop : tie.InvT-loop
-Inv-loop words stamps₀ counts₀ e list index₀ sum₀ t₀ stamps counts index sum t = TypesSoFar words t index sum stamps counts
+Inv-loop words stamps₀ counts₀ gap e list index₀ sum₀ t₀ stamps counts index sum t = TypesSoFar words t index sum stamps counts
 
 abbrev μ-loop : tie.MeasureT-loop
-μ-loop words stamps₀ counts₀ e list index₀ sum₀ t₀ stamps counts index sum t = e - t
+μ-loop words stamps₀ counts₀ gap e list index₀ sum₀ t₀ stamps counts index sum t = e - t
 
 -- the loop has read the record of a type whose first child is the running index
 module _ (c : tie.Else1 Inv-loop μ-loop) where
@@ -29,7 +29,7 @@ module _ (c : tie.Else1 Inv-loop μ-loop) where
   typed = at .before
 
   abbrev start : tie.Start Inv-loop μ-loop
-  start = typed .before .before
+  start = typed .before .before .before
 
   abbrev kind : ℕ
   kind = c .before .before .before .record-word .result
@@ -69,6 +69,9 @@ module _ (c : tie.Else4 Inv-loop μ-loop) where
         right = right .1;
       }
 
+gap-of-requires : tie.Need-gap-of-requires Inv-loop μ-loop
+gap-of-requires c κs = search needs
+
 types-requires : tie.Need-types-requires Inv-loop μ-loop
 types-requires c κs = search needs
 
@@ -79,7 +82,7 @@ add-list : tie.Need-add-list Inv-loop μ-loop
 add-list c = search needs
 
 loop-holds : tie.Need-loop-holds Inv-loop μ-loop
-loop-holds c = let s = c .before .before in rw (s .pre .2) (types-start _ (s .pre .1))
+loop-holds c = let s = c .before .before .before in rw (s .pre .2) (types-start _ (s .pre .1))
 
 record-word-requires : tie.Need-record-word-requires Inv-loop μ-loop
 record-word-requires c κs = search needs
@@ -161,8 +164,10 @@ rule-of-requires c κs = search needs
 privileges-of-requires : tie.Need-privileges-of-requires Inv-loop μ-loop
 privileges-of-requires c κs =
     let parent = c .before .before .before .before .before .before .before in
-    let here = record-read parent in
-    rw (c .rule-of .ensures) (omega (arith, count-small (kind here) (at here .loop .index) (count here), read parent .count-is .small))
+    let here = record-read parent in (
+      rw (c .rule-of .ensures) (omega (arith, count-small (kind here) (at here .loop .index) (count here), read parent .count-is .small)),
+      typed here .before .gap-of .ensures .small,
+    )
 
 add-sum-2 : tie.Need-add-sum-2 Inv-loop μ-loop
 add-sum-2 c = search needs
@@ -182,7 +187,7 @@ loop-again-2 c =
     types-more (at here .loop .inv) (read parent) e (type here)
     (read-children (read parent) (from here) (until here) (stretched here) refl e refl)
     (done .stamp-children .ensures (not-false _ (c .before .before .if6 .left)))
-    (read-privileges (read parent) (c .before .rule-of .ensures) (c .privileges-of .ensures))
+    (read-privileges (read parent) (c .before .rule-of .ensures) (rw (typed here .before .gap-of .ensures .is) at (c .privileges-of .ensures)))
 
 totals-fit-requires : tie.Need-totals-fit-requires Inv-loop μ-loop
 totals-fit-requires c κs = search needs
@@ -191,7 +196,7 @@ returns-6 : tie.Need-returns-6 Inv-loop μ-loop
 returns-6 c =
     let end = c .before in
     let typed = end .before .before in
-    λ q. types-all (end .before .loop .inv) (rw (← typed .types .ensures .is) (end .loop-test .left)) (typed .before .before .pre .0 .few)
+    λ q. types-all (end .before .loop .inv) (rw (← typed .types .ensures .is) (end .loop-test .left)) (typed .before .before .before .pre .0 .few)
     (told-yes (c .totals-fit .result) (c .totals-fit .ensures) q)
 
 pub types-pass-spec : {M : Type 1} → statement M
@@ -200,6 +205,7 @@ types-pass-spec =
     (tie.spec
     Inv-loop
     μ-loop
+    gap-of-requires
     types-requires
     mul-list
     add-list

@@ -1,19 +1,17 @@
--- Counted by the rule. Assumes nothing.
-use mathlib.Core.Path.{ap, _∙_}
-use Rattle.table.specs.Privilege.{privilegesAt, privilegesOf}
+-- By the gap of its format. Assumes nothing.
+use native.Mathlib.Omega.{arith}
 use borrow.Author.Needs.{needs}
 use Rattle.table.proofs.privilege.privileges_at.Statement.{statement}
 use Rattle.table.proofs.privilege.privileges_at.Tie as tie
 
-rule-at-requires : tie.Need-rule-at-requires
-rule-at-requires c κs = search needs
+gap-of-requires : tie.Need-gap-of-requires
+gap-of-requires c κs = omega (arith, c .before .pre)
 
-privileges-of-requires : tie.Need-privileges-of-requires
-privileges-of-requires c κs = search needs
+privileges-in-requires : tie.Need-privileges-in-requires
+privileges-in-requires c κs = (c .before .before .pre, c .gap-of .ensures .is)
 
 returns : tie.Need-returns
-unfolding privilegesAt
-returns c = record { is = c .privileges-of .ensures .is ∙ ap privilegesOf (c .before .rule-at .ensures .is); small = c .privileges-of .ensures .small }
+returns c = search needs
 
 pub privileges-at-spec : {M : Type 1} → statement M
-privileges-at-spec = tie.close (tie.spec rule-at-requires privileges-of-requires returns)
+privileges-at-spec = tie.close (tie.spec gap-of-requires privileges-in-requires returns)

@@ -5,17 +5,19 @@ use Rattle.table.proofs.Privileges.{row-few}
 use Rattle.table.proofs.privilege.row_at.Statement.{statement}
 use Rattle.table.proofs.privilege.row_at.Tie as tie
 
-sub-result : tie.Need-sub-result
-sub-result c = search needs
+width-requires : tie.Need-width-requires
+width-requires c κs = let p = c .pre in (p .small, omega (arith, p .from))
 
 mul-result : tie.Need-mul-result
-mul-result c = omega (arith, row-few (c .before .pre))
+mul-result c = rw (c .width .ensures) (omega (arith, row-few (c .before .pre)))
 
 add-result : tie.Need-add-result
-add-result c = omega (arith, row-few (c .before .before .pre), c .before .before .pre)
+add-result c = let p = c .before .before .pre in rw (c .before .width .ensures) (omega (arith, row-few p, p .small .low))
 
 returns : tie.Need-returns
-returns c = record { is = omega arith; small = omega (arith, row-few (c .before .before .pre), c .before .before .pre) }
+returns c =
+    let p = c .before .before .pre in
+    rw (c .before .width .ensures) (record { is = omega arith; small = omega (arith, row-few p, p .small .low) })
 
 pub row-at-spec : {M : Type 1} → statement M
-row-at-spec = tie.close (tie.spec sub-result mul-result add-result returns)
+row-at-spec = tie.close (tie.spec width-requires mul-result add-result returns)

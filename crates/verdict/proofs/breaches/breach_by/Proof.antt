@@ -3,7 +3,7 @@ use borrow.Author.Needs.{needs}
 use Rattle.verdict.proofs.Firsts.{CleanBefore, clean-start, clean-more, clean-all, at-none, at-first, no-tag}
 use Rattle.verdict.specs.steps.Lows.{Kept}
 use Rattle.verdict.specs.steps.Visits.{none}
-use Rattle.table.proofs.Facts.{facts, has-record}
+use Rattle.table.proofs.Facts.{facts, has-format, has-record}
 use Rattle.table.proofs.Privileges.{first-start, first-next, first-within}
 use Rattle.table.specs.Privilege.{firstPrivilege}
 use Rattle.table.specs.Words.{types}
@@ -15,14 +15,17 @@ use Rattle.verdict.proofs.breaches.breach_by.Statement.{statement}
 use Rattle.verdict.proofs.breaches.breach_by.Tie as tie
 
 abbrev Inv-loop : tie.InvT-loop
-Inv-loop words marks low e first₀ x₀ first x = (x ≤ e) × (first ≡ firstPrivilege words x) × CleanBefore words marks (Kept low) x
+Inv-loop words marks low gap e first₀ x₀ first x = (x ≤ e) × (first ≡ firstPrivilege words x) × CleanBefore words marks (Kept low) x
 
 abbrev μ-loop : tie.MeasureT-loop
-μ-loop words marks low e first₀ x₀ first x = e - x
+μ-loop words marks low gap e first₀ x₀ first x = e - x
 
 -- the loop stands at a type
-is-type : (c : tie.In-loop Inv-loop μ-loop) → c .before .loop .x < types (now (c .before .before .before .before .before .args .words))
+is-type : (c : tie.In-loop Inv-loop μ-loop) → c .before .loop .x < types (now (c .before .before .before .before .before .before .args .words))
 is-type c = omega (arith, c .loop-test .taken, c .before .before .types .ensures .is)
+
+gap-of-requires : tie.Need-gap-of-requires Inv-loop μ-loop
+gap-of-requires c κs = has-format (c .before .before .pre .accepted)
 
 types-requires : tie.Need-types-requires Inv-loop μ-loop
 types-requires c κs = search needs
@@ -31,21 +34,22 @@ loop-holds : tie.Need-loop-holds Inv-loop μ-loop
 loop-holds c = (search needs, sym (first-start _), clean-start _ _ _)
 
 breach-at-requires : tie.Need-breach-at-requires Inv-loop μ-loop
-breach-at-requires c κs = (c .before .before .before .before .before .pre, is-type c, c .before .loop .inv .1)
+breach-at-requires c κs = (c .before .before .before .before .before .before .pre, is-type c, c .before .loop .inv .1)
 
 enum-told : tie.Need-enum-told Inv-loop μ-loop
 enum-told c = search needs
 
-privileges-at-requires : tie.Need-privileges-at-requires Inv-loop μ-loop
-privileges-at-requires c κs =
+privileges-in-requires : tie.Need-privileges-in-requires Inv-loop μ-loop
+privileges-in-requires c κs =
     let loop = c .before .before .before in
-    has-record (loop .before .before .before .before .before .pre .accepted) (is-type loop)
+    let gap = loop .before .before .before in
+    (has-record (gap .before .before .before .pre .accepted) (is-type loop), gap .gap-of .ensures .is)
 
 add-first : tie.Need-add-first Inv-loop μ-loop
 add-first c =
     let loop = c .before .before .before .before in
-    let start = loop .before .before .before .before .before in
-    omega (arith, c .privileges-at .ensures .small, first-within (now (start .args .words)) (loop .before .loop .x) (omega (arith, is-type loop)), facts (start .pre .accepted) .privileges-few)
+    let start = loop .before .before .before .before .before .before in
+    omega (arith, c .privileges-in .ensures .small, first-within (now (start .args .words)) (loop .before .loop .x) (omega (arith, is-type loop)), facts (start .pre .accepted) .privileges-few)
 
 add-x : tie.Need-add-x Inv-loop μ-loop
 add-x c = search needs
@@ -59,7 +63,7 @@ loop-again c =
     let at = loop .before .loop in
     let found = c .before .before .before in (
       search needs,
-      ap (λ (p : ℕ). p + c .privileges-at .result) (at .inv .1) ∙ rw (c .privileges-at .ensures .is) (sym (first-next _ (at .x))),
+      ap (λ (p : ℕ). p + c .privileges-in .result) (at .inv .1) ∙ rw (c .privileges-in .ensures .is) (sym (first-next _ (at .x))),
       clean-more _ _ _ (at .inv .2) (at-none _ _ _ (found .breach-at .ensures) (c .before .enum-told .given .1)),
     )
 
@@ -74,7 +78,7 @@ no-breach-requires c κs = search needs
 returns-2 : tie.Need-returns-2 Inv-loop μ-loop
 returns-2 c =
     let at = c .before .before in
-    let start = at .before .before .before .before in
+    let start = at .before .before .before .before .before in
     let end : at .loop .x ≡ types (now (start .args .words)) = omega (arith, at .loop .inv .0, c .before .loop-test .left, at .before .types .ensures .is) in
     none (c .no-breach .ensures) (clean-all _ _ _ (rw end at (at .loop .inv .2)))
 
@@ -84,11 +88,12 @@ breach-by-spec =
     (tie.spec
     Inv-loop
     μ-loop
+    gap-of-requires
     types-requires
     loop-holds
     breach-at-requires
     enum-told
-    privileges-at-requires
+    privileges-in-requires
     add-first
     add-x
     loop-less

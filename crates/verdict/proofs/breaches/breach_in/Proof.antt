@@ -1,5 +1,6 @@
 -- The first chain that is found, or else the first cycle. Assumes nothing.
 use borrow.Author.Needs.{needs}
+use Rattle.table.proofs.Privileges.{numbered-small}
 use Rattle.verdict.proofs.Breached.{chain-first, choice-at}
 use Rattle.verdict.proofs.breaches.breach_in.Statement.{statement}
 use Rattle.verdict.proofs.breaches.breach_in.Tie as tie
@@ -7,7 +8,7 @@ use Rattle.verdict.proofs.breaches.breach_in.Tie as tie
 first-broken-requires : tie.Need-first-broken-requires
 first-broken-requires c κs =
     let p = c .before .before .before .pre in
-    (record { low = p .1 .low; few = p .1 .few }, p .4)
+    (numbered-small (p .1), p .4)
 
 enum-known-chain : tie.Need-enum-known-chain
 enum-known-chain c = search needs
@@ -17,7 +18,7 @@ replacement-requires c κs =
     let found = c .before .before .before in
     let numbered = found .before .before .before .before .pre .1 in
     let f = rw (c .before .chain .given .1) at (found .first-broken .ensures) in
-    record { low = numbered .low; few = numbered .few; from = f .from; to = f .to }
+    record { small = numbered-small numbered; from = f .from; to = f .to }
 
 returns : tie.Need-returns
 returns c =

@@ -1,7 +1,7 @@
 -- The rows are read, and closed. Assumes nothing.
 use borrow.Author.Needs.{needs}
 use mathlib.Core.Path.{refl}
-use Rattle.policy.proofs.SquareLaws.{kids-here, policy-readable}
+use Rattle.policy.proofs.SquareLaws.{policy-readable}
 use Rattle.verdict.proofs.breaches.choice_breach.Statement.{statement}
 use Rattle.verdict.proofs.breaches.choice_breach.Tie as tie
 
@@ -9,7 +9,7 @@ read-rows-requires : tie.Need-read-rows-requires
 read-rows-requires c κs =
     let start = c .before .before .before .before .before in
     let v = start .pre .0 in
-    (policy-readable (v .policy) (start .pre .2) (start .pre .1), kids-here (v .policy .accepted) (v .type) (v .kids-are) (start .pre .1), refl, refl)
+    (policy-readable (v .policy) (start .pre .2) (start .pre .1), refl, refl)
 
 reached-by-requires : tie.Need-reached-by-requires
 reached-by-requires c κs = search needs

@@ -1,0 +1,93 @@
+// A policy of format 2 that is not refused, and what is asked of it.
+
+use crate::answers::Breach;
+use crate::completing::completion;
+use crate::conditions::{check_policy, first_breach, reached};
+use crate::format::Format;
+use crate::mending::mending_steps;
+use crate::policy_case::PolicyCase;
+use crate::table::{Table, ALLOWED, UNSET};
+use std::cell::OnceCell;
+use std::ops::Range;
+
+pub struct Policy<'a> {
+    pub case: &'a PolicyCase,
+    pub table: Table,
+    pub breach: Option<Breach>,
+    steps: OnceCell<Vec<(Breach, usize)>>,
+    completion: OnceCell<Option<Vec<u8>>>,
+}
+
+impl Policy<'_> {
+    pub fn of(case: &PolicyCase) -> Option<Policy<'_>> {
+        let table =
+            check_policy(&case.words, &case.marks).ok().filter(|table| table.format == Format::Two)?;
+        let breach = first_breach(&table, &case.marks);
+        Some(Policy { case, table, breach, steps: OnceCell::new(), completion: OnceCell::new() })
+    }
+
+    fn has_room(&self) -> bool {
+        self.case.out.len() >= self.table.v()
+    }
+
+    /// The steps of its mending; none where there is no room for the result.
+    pub fn steps(&self) -> &[(Breach, usize)] {
+        let steps =
+            || if self.has_room() { mending_steps(&self.table, &self.case.marks) } else { Vec::new() };
+        self.steps.get_or_init(steps)
+    }
+
+    /// Its completion, where that is not refused.
+    pub fn completion(&self) -> Option<&Vec<u8>> {
+        let refused = self.breach.is_some() || !self.has_room();
+        let made = || if refused { None } else { Some(completion(&self.table, &self.case.marks)) };
+        self.completion.get_or_init(made).as_ref()
+    }
+
+    pub fn mark(&self, privilege: usize) -> u8 {
+        self.case.marks[privilege]
+    }
+
+    pub fn allows(&self, privilege: usize) -> bool {
+        self.mark(privilege) == ALLOWED
+    }
+
+    pub fn allows_both(&self, star: usize) -> bool {
+        self.table.allows_both(&self.case.marks, star)
+    }
+
+    pub fn exchange(&self, star: usize) -> usize {
+        self.table.exchange(star).expect("a star of format 2 has one")
+    }
+
+    pub fn positions(&self, choice: usize) -> Range<usize> {
+        0..self.table.types[choice].children.len()
+    }
+
+    /// The replacement of i by i.
+    pub fn same_kind(&self, choice: usize, i: usize) -> usize {
+        self.table.replacement(choice, i, i)
+    }
+
+    /// The privileges below the child at i that have this mark.
+    pub fn below(&self, t: usize, i: usize, mark: u8) -> Vec<usize> {
+        let below = &self.table.below[self.table.types[t].children[i]];
+        below.iter().copied().filter(|&p| self.mark(p) == mark).collect()
+    }
+
+    pub fn reaches(&self, choice: usize, i: usize, j: usize) -> bool {
+        reached(&self.table, &self.case.marks, choice, i)[j]
+    }
+
+    /// Whether i is reached from i over others, without the replacement of i by i.
+    pub fn comes_round(&self, choice: usize, i: usize) -> bool {
+        let mut without = self.case.marks.clone();
+        without[self.same_kind(choice, i)] = UNSET;
+        reached(&self.table, &without, choice, i)[i]
+    }
+
+    /// Whether i is reached from i by the replacement of i by i and not without it.
+    pub fn by_same_kind_alone(&self, choice: usize, i: usize) -> bool {
+        self.allows(self.same_kind(choice, i)) && !self.comes_round(choice, i)
+    }
+}
