@@ -4,7 +4,8 @@
 // taken. What is done by hand: a table is accepted by a pass over its records that is not left early and looks rules up, one over its child list, and
 // one over the types in their order, which is made meanwhile, without a branch; only a refused one is searched for the first failing check, and
 // for a cycle in one walk; a row of a choice is 16 bits; marks are checked and compared many at a time, read 16 at a time, each mark's bit gathered
-// by a multiplication, and written eight at a time. Nothing is allocated, and nothing is unsafe.
+// by a multiplication, and written eight at a time; the format is asked once a call, and what goes by it is compiled for each. Nothing is allocated, and
+// nothing is unsafe.
 
 use crate::calls::Outcome;
 use std::mem::replace;
@@ -17,6 +18,10 @@ const STAR: u16 = 4;
 
 const ALLOWED: u8 = 1;
 const FORBIDDEN: u8 = 2;
+
+/// Whether a table is of format 2; each function that goes by the format is made for both.
+const ONE: bool = false;
+const TWO: bool = true;
 
 const MOST_CHILDREN: u16 = 16;
 const MOST_PRIVILEGES: usize = 4096;
@@ -34,6 +39,8 @@ type Refusal = (usize, usize);
 
 /// An accepted table.
 struct Table<'a> {
+    is_two: bool,
+    privileges: &'static Privileges,
     records: &'a [Record],
     list: &'a [u16],
     v: usize,
@@ -45,6 +52,10 @@ impl<'a> Table<'a> {
     fn children(&self, record: &Record) -> &'a [u16] {
         children(self.list, record)
     }
+
+    fn privileges_of(&self, record: &Record) -> usize {
+        privileges_of(self.privileges, record)
+    }
 }
 
 /// Room for an order of types.
@@ -55,19 +66,24 @@ fn children<'a>(list: &'a [u16], record: &Record) -> &'a [u16] {
 }
 
 /// The privileges of each rule; too many, where the number of children does not fit the kind.
-const PRIVILEGES: [u16; 256] = {
+type Privileges = [u16; 256];
+
+/// Those of both formats.
+static PRIVILEGES: [Privileges; 2] = [privileges(ONE), privileges(TWO)];
+
+const fn privileges(is_two: bool) -> Privileges {
     let mut all = [MISFIT; 256];
     all[rule(EMPTY, 0)] = 0;
     all[rule(TEXT, 0)] = 1;
-    all[rule(STAR, 1)] = 2;
+    all[rule(STAR, 1)] = if is_two { 3 } else { 2 };
     let mut n = 1;
     while n <= MOST_CHILDREN {
         all[rule(SEQUENCE, n)] = 0;
-        all[rule(CHOICE, n)] = n * n - n;
+        all[rule(CHOICE, n)] = if is_two { n * n } else { n * n - n };
         n += 1;
     }
     all
-};
+}
 
 const MISFIT: u16 = MOST_PRIVILEGES as u16 + 1;
 
@@ -76,8 +92,8 @@ const fn rule(kind: u16, count: u16) -> usize {
     (kind << 5 | count) as u8 as usize
 }
 
-fn privileges_of(&[kind, count, _]: &Record) -> usize {
-    PRIVILEGES[rule(kind, count)] as usize
+fn privileges_of(privileges: &Privileges, &[kind, count, _]: &Record) -> usize {
+    privileges[rule(kind, count)] as usize
 }
 
 fn read_table<'a>(words: &'a [u16], order: &'a mut Order) -> Result<Table<'a>, Refusal> {
@@ -85,9 +101,9 @@ fn read_table<'a>(words: &'a [u16], order: &'a mut Order) -> Result<Table<'a>, R
         return Err((1, 0));
     };
     let [format, size, e, root, at, c, list_at, v] = header.map(usize::from);
-    if format != 1 {
+    let Some(privileges) = PRIVILEGES.get(format.wrapping_sub(1)) else {
         return Err((1, 0));
-    }
+    };
     let counts = (1..=256).contains(&e) && c <= 1024 && root < e;
     let offsets = at == 8 && list_at == 8 + 3 * e && size == 8 + 3 * e + c;
     if !counts || !offsets || words.len() != size {
@@ -95,28 +111,36 @@ fn read_table<'a>(words: &'a [u16], order: &'a mut Order) -> Result<Table<'a>, R
     }
     let (records, list) = rest.split_at(3 * e);
     let (records, _) = records.as_chunks::<3>();
-    match accepted(records, list, root, order) {
-        Some((total, n)) if total == v => Ok(Table { records, list, v, order: &order[..n] }),
+    match accepted(privileges, records, list, root, order) {
+        Some((total, n)) if total == v => {
+            Ok(Table { is_two: format == 2, privileges, records, list, v, order: &order[..n] })
+        }
         _ => Err(first_failing(records, list, root)),
     }
 }
 
 /// V and the length of the order, if checks 3 to 8 and 19 pass and V is not too large.
 fn accepted(
+    privileges: &Privileges,
     records: &[Record],
     list: &[u16],
     root: usize,
     order: &mut Order,
 ) -> Option<(usize, usize)> {
     let mut untaken = [0; 256];
-    let total = fitting(records, list, &mut untaken)?;
+    let total = fitting(privileges, records, list, &mut untaken)?;
     count_entries(list, &mut untaken);
     let length = put_in_order(records, list, root, &mut untaken, order)?;
     Some((total, length))
 }
 
 /// V, if checks 3 to 6 pass and it is not too large. The counts of entries begin at 0, or, for types without children, at 1: those never come to 0.
-fn fitting(records: &[Record], list: &[u16], untaken: &mut [u8; 256]) -> Option<usize> {
+fn fitting(
+    privileges: &Privileges,
+    records: &[Record],
+    list: &[u16],
+    untaken: &mut [u8; 256],
+) -> Option<usize> {
     let (mut odd, mut astray) = (0, 0);
     let (mut running, mut total) = (0u16, 0);
     for (record, untaken) in records.iter().zip(untaken) {
@@ -124,7 +148,7 @@ fn fitting(records: &[Record], list: &[u16], untaken: &mut [u8; 256]) -> Option<
         odd |= kind | count >> 2;
         astray |= first ^ running;
         running = running.wrapping_add(count);
-        total += privileges_of(record);
+        total += privileges_of(privileges, record);
         *untaken = (count == 0) as u8;
     }
     let rules = (odd < 8) & (total <= MOST_PRIVILEGES);
@@ -190,7 +214,9 @@ fn first_failing(records: &[Record], list: &[u16], root: usize) -> Refusal {
     if let Some(t) = records.iter().position(|record| record[0] > STAR) {
         return (3, t);
     }
-    let misfit = |it: &Record| it[1] > MOST_CHILDREN || privileges_of(it) == MISFIT as usize;
+    // a rule that does not fit one format does not fit the other
+    let misfit =
+        |it: &Record| it[1] > MOST_CHILDREN || privileges_of(&PRIVILEGES[0], it) == MISFIT as usize;
     if let Some(t) = records.iter().position(misfit) {
         return (4, t);
     }
@@ -405,7 +431,7 @@ struct Breach {
 fn fill_lows(table: &Table, marks: &[u8], low: &mut [u16; 256]) {
     let mut first = 0;
     for (record, own) in table.records.iter().zip(&mut *low) {
-        let until = first + privileges_of(record);
+        let until = first + table.privileges_of(record);
         *own = lowest_forbidden(&marks[first..until], first);
         first = until;
     }
@@ -419,16 +445,25 @@ fn fill_lows(table: &Table, marks: &[u8], low: &mut [u16; 256]) {
 /// The replacements of a choice as 16 rows of 16 bits: row i, bit j.
 type Rows = [u16; 16];
 
+/// How many privileges a row of a choice of n has: in format 1 that of i by i is left out.
+fn row_length<const IS_TWO: bool>(n: usize) -> usize {
+    if IS_TWO {
+        n
+    } else {
+        n - 1
+    }
+}
+
 /// The number of the privilege to replace i by j, at a choice of n.
-fn replacement(first: usize, n: usize, i: usize, j: usize) -> usize {
-    first + i * (n - 1) + j - (j > i) as usize
+fn replacement<const IS_TWO: bool>(first: usize, n: usize, i: usize, j: usize) -> usize {
+    first + i * row_length::<IS_TWO>(n) + j - (!IS_TWO & (j > i)) as usize
 }
 
 /// What is allowed and what is forbidden among the marks of a row: a bit for each.
 fn read_row(marks: &[u8], at: usize, own: usize) -> (u16, u16) {
     if let Some(whole) = marks[at..].first_chunk::<16>() {
         let row = u128::from_le_bytes(*whole);
-        let mask = (1 << own) - 1;
+        let mask = ((1u32 << own) - 1) as u16;
         return (lowest_bits(row) & mask, lowest_bits(row >> 1) & mask);
     }
     let (mut steps, mut bans) = (0, 0);
@@ -440,13 +475,14 @@ fn read_row(marks: &[u8], at: usize, own: usize) -> (u16, u16) {
 }
 
 /// What is allowed and what is forbidden at a choice of n.
-fn read_choice(marks: &[u8], first: usize, n: usize) -> (Rows, Rows) {
+fn read_choice<const IS_TWO: bool>(marks: &[u8], first: usize, n: usize) -> (Rows, Rows) {
     let (mut allowed, mut forbidden) = ([0; 16], [0; 16]);
+    let own = row_length::<IS_TWO>(n);
     for i in 0..n.min(16) {
-        let (steps, bans) = read_row(marks, first + i * (n - 1), n - 1);
-        // bit j of the marks is position j, or j + 1 from i on
+        let (steps, bans) = read_row(marks, first + i * own, own);
+        // bit j of the marks is position j, or, in format 1, j + 1 from i on
         let before = (1u16 << i) - 1;
-        let placed = |bits: u16| bits + (bits & !before);
+        let placed = |bits: u16| if IS_TWO { bits } else { bits + (bits & !before) };
         allowed[i] = placed(steps);
         forbidden[i] = placed(bans);
     }
@@ -483,7 +519,7 @@ fn spoilt_in(kids: &[u16], low: &[u16; 256]) -> u16 {
     kids.iter().enumerate().map(bit).fold(0, |all, one| all | one)
 }
 
-fn choice_breach(
+fn choice_breach<const IS_TWO: bool>(
     marks: &[u8],
     low: &[u16; 256],
     element: usize,
@@ -491,10 +527,10 @@ fn choice_breach(
     first: usize,
 ) -> Option<Breach> {
     let n = kids.len();
-    let (allowed, forbidden) = read_choice(marks, first, n);
+    let (allowed, forbidden) = read_choice::<IS_TWO>(marks, first, n);
     let reached = reach(&allowed, n);
     if let Some((i, j)) = first_chain(&reached, &forbidden) {
-        let privilege = replacement(first, n, i, j);
+        let privilege = replacement::<IS_TWO>(first, n, i, j);
         return Some(Breach { condition: 2, element, i, j, privilege });
     }
     let i = first_cycle(&reached, spoilt_in(kids, low))?;
@@ -506,7 +542,12 @@ fn both_allowed(marks: &[u8], first: usize) -> bool {
     marks[first..first + 2] == [ALLOWED, ALLOWED]
 }
 
-fn star_breach(
+/// Whether the exchange, which format 2 has, has a mark.
+fn exchange_is<const IS_TWO: bool>(marks: &[u8], first: usize, mark: u8) -> bool {
+    IS_TWO && marks[first + 2] == mark
+}
+
+fn star_breach<const IS_TWO: bool>(
     marks: &[u8],
     low: &[u16; 256],
     element: usize,
@@ -514,26 +555,41 @@ fn star_breach(
     first: usize,
 ) -> Option<Breach> {
     let lowest = low[kids[0] as usize & 255];
-    if lowest == NONE || !both_allowed(marks, first) {
+    let at = |privilege| Some(Breach { condition: 1, element, i: 0, j: 0, privilege });
+    if exchange_is::<IS_TWO>(marks, first, FORBIDDEN) && both_allowed(marks, first) {
+        return at(first + 2);
+    }
+    if lowest == NONE {
         return None;
     }
-    Some(Breach { condition: 1, element, i: 0, j: 0, privilege: lowest as usize })
+    if both_allowed(marks, first) || exchange_is::<IS_TWO>(marks, first, ALLOWED) {
+        return at(lowest as usize);
+    }
+    None
 }
 
 fn first_breach(table: &Table, marks: &[u8]) -> Option<Breach> {
+    if table.is_two {
+        first_breach_in::<TWO>(table, marks)
+    } else {
+        first_breach_in::<ONE>(table, marks)
+    }
+}
+
+fn first_breach_in<const IS_TWO: bool>(table: &Table, marks: &[u8]) -> Option<Breach> {
     let mut low = [NONE; 256];
     fill_lows(table, marks, &mut low);
     let mut first = 0;
     for (x, record) in table.records.iter().enumerate() {
         let breach = match record[0] {
-            CHOICE => choice_breach(marks, &low, x, table.children(record), first),
-            STAR => star_breach(marks, &low, x, table.children(record), first),
+            CHOICE => choice_breach::<IS_TWO>(marks, &low, x, table.children(record), first),
+            STAR => star_breach::<IS_TWO>(marks, &low, x, table.children(record), first),
             _ => None,
         };
         if breach.is_some() {
             return breach;
         }
-        first += privileges_of(record);
+        first += table.privileges_of(record);
     }
     None
 }
@@ -556,11 +612,12 @@ fn eight_decided(bits: u16) -> [u8; 8] {
 }
 
 /// Writes the decided marks of a choice: of a row of eight or more the first eight and the last eight.
-fn write_choice(reached: &Rows, n: usize, first: usize, out: &mut [u8]) {
-    let own = n - 1;
+fn write_choice<const IS_TWO: bool>(reached: &Rows, n: usize, first: usize, out: &mut [u8]) {
+    let own = row_length::<IS_TWO>(n);
     for i in 0..n.min(16) {
         let before = (1u16 << i) - 1;
-        let bits = (reached[i] & before) | (reached[i] >> 1 & !before);
+        let without = (reached[i] & before) | (reached[i] >> 1 & !before);
+        let bits = if IS_TWO { reached[i] } else { without };
         let row = &mut out[first + i * own..][..own];
         match row.first_chunk_mut::<8>() {
             Some(eight) => {
@@ -572,7 +629,7 @@ fn write_choice(reached: &Rows, n: usize, first: usize, out: &mut [u8]) {
     }
 }
 
-fn complete_choice(
+fn complete_choice<const IS_TWO: bool>(
     marks: &[u8],
     kids: &[u16],
     first: usize,
@@ -580,12 +637,24 @@ fn complete_choice(
     out: &mut [u8],
 ) {
     let n = kids.len();
-    let (allowed, _) = read_choice(marks, first, n);
+    let (allowed, _) = read_choice::<IS_TWO>(marks, first, n);
     let reached = reach(&allowed, n);
     for (i, &child) in kids.iter().enumerate() {
         opened[child as usize & 255] |= reached[i & 15] >> i & 1 == 1;
     }
-    write_choice(&reached, n, first, out);
+    write_choice::<IS_TWO>(&reached, n, first, out);
+}
+
+/// Tells whether what is below the child is opened.
+fn complete_star<const IS_TWO: bool>(marks: &[u8], first: usize, out: &mut [u8]) -> bool {
+    let [insert, delete] = [first, first + 1].map(|p| marks[p] == ALLOWED);
+    let opened = insert & delete | exchange_is::<IS_TWO>(marks, first, ALLOWED);
+    out[first] = decided(insert);
+    out[first + 1] = decided(delete);
+    if IS_TWO {
+        out[first + 2] = decided(opened);
+    }
+    opened
 }
 
 /// Fills in for each type its first privilege.
@@ -593,12 +662,20 @@ fn fill_firsts(table: &Table, firsts: &mut [u16; 256]) {
     let mut total = 0;
     for (record, first) in table.records.iter().zip(firsts) {
         *first = total;
-        total += privileges_of(record) as u16;
+        total += table.privileges_of(record) as u16;
+    }
+}
+
+fn complete_all(table: &Table, marks: &[u8], out: &mut [u8]) {
+    if table.is_two {
+        complete_all_in::<TWO>(table, marks, out)
+    } else {
+        complete_all_in::<ONE>(table, marks, out)
     }
 }
 
 /// Parents come before their children: each type is known to be opened or not when its turn comes, and the texts when all others had theirs.
-fn complete_all(table: &Table, marks: &[u8], out: &mut [u8]) {
+fn complete_all_in<const IS_TWO: bool>(table: &Table, marks: &[u8], out: &mut [u8]) {
     let mut opened = [false; 256];
     let mut firsts = [0; 256];
     fill_firsts(table, &mut firsts);
@@ -606,19 +683,14 @@ fn complete_all(table: &Table, marks: &[u8], out: &mut [u8]) {
         let record = &table.records[x as usize];
         let kids = table.children(record);
         let first = firsts[x as usize] as usize;
-        let own = first..first + privileges_of(record);
+        let own = first..first + table.privileges_of(record);
         match record[0] {
             _ if opened[x as usize] => {
                 kids.iter().for_each(|&child| opened[child as usize & 255] = true);
                 out[own].fill(ALLOWED);
             }
-            CHOICE => complete_choice(marks, kids, first, &mut opened, out),
-            STAR => {
-                let [insert, delete] = [first, first + 1].map(|p| marks[p] == ALLOWED);
-                opened[kids[0] as usize & 255] |= insert & delete;
-                out[first] = decided(insert);
-                out[first + 1] = decided(delete);
-            }
+            CHOICE => complete_choice::<IS_TWO>(marks, kids, first, &mut opened, out),
+            STAR => opened[kids[0] as usize & 255] |= complete_star::<IS_TWO>(marks, first, out),
             _ => (),
         }
     }
@@ -644,9 +716,14 @@ fn lowest_lead(allowed: &Rows, reached: &Rows, i: usize, j: usize) -> usize {
     }
 }
 
-fn mend_choice(m: &mut [u8], low: &[u16; 256], kids: &[u16], first: usize) -> usize {
+fn mend_choice<const IS_TWO: bool>(
+    m: &mut [u8],
+    low: &[u16; 256],
+    kids: &[u16],
+    first: usize,
+) -> usize {
     let n = kids.len();
-    let (mut allowed, mut forbidden) = read_choice(m, first, n);
+    let (mut allowed, mut forbidden) = read_choice::<IS_TWO>(m, first, n);
     let spoilt = spoilt_in(kids, low);
     let mut count = 0;
     loop {
@@ -658,26 +735,51 @@ fn mend_choice(m: &mut [u8], low: &[u16; 256], kids: &[u16], first: usize) -> us
         let k = lowest_lead(&allowed, &reached, i, j);
         allowed[i] &= !(1 << k);
         forbidden[i] |= 1 << k;
-        m[replacement(first, n, i, k)] = FORBIDDEN;
+        m[replacement::<IS_TWO>(first, n, i, k)] = FORBIDDEN;
         count += 1;
     }
 }
 
+/// First the delete, for insert and delete; then the exchange.
+fn mend_star<const IS_TWO: bool>(
+    m: &mut [u8],
+    low: &[u16; 256],
+    kids: &[u16],
+    first: usize,
+) -> usize {
+    let spoilt = low[kids[0] as usize & 255] != NONE;
+    let mut count = 0;
+    if (spoilt || exchange_is::<IS_TWO>(m, first, FORBIDDEN)) && both_allowed(m, first) {
+        m[first + 1] = FORBIDDEN;
+        count += 1;
+    }
+    if spoilt && exchange_is::<IS_TWO>(m, first, ALLOWED) {
+        m[first + 2] = FORBIDDEN;
+        count += 1;
+    }
+    count
+}
+
 fn mend_all(table: &Table, m: &mut [u8]) -> usize {
+    if table.is_two {
+        mend_all_in::<TWO>(table, m)
+    } else {
+        mend_all_in::<ONE>(table, m)
+    }
+}
+
+fn mend_all_in<const IS_TWO: bool>(table: &Table, m: &mut [u8]) -> usize {
     let mut low = [NONE; 256];
     fill_lows(table, m, &mut low);
     let (mut first, mut count) = (0, 0);
     for record in table.records {
         let kids = table.children(record);
         match record[0] {
-            CHOICE => count += mend_choice(m, &low, kids, first),
-            STAR if both_allowed(m, first) && low[kids[0] as usize & 255] != NONE => {
-                m[first + 1] = FORBIDDEN;
-                count += 1;
-            }
+            CHOICE => count += mend_choice::<IS_TWO>(m, &low, kids, first),
+            STAR => count += mend_star::<IS_TWO>(m, &low, kids, first),
             _ => (),
         }
-        first += privileges_of(record);
+        first += table.privileges_of(record);
     }
     count
 }

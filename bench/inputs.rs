@@ -1,5 +1,6 @@
-// What is measured: the sample, a table of ordinary size, the largest tables with the worst marks for each call, both with their types renumbered,
-// tables that are refused for a cycle or a type that is not reached, and tables that double.
+// What is measured: the sample, a table of ordinary size, the largest tables with the worst marks for each call, the last two also with their types
+// renumbered; the sample, the ordinary and a largest table in format 2; tables that are refused for a cycle or a type that is not reached; and tables
+// that double.
 
 use crate::calls::{Call, Case};
 use crate::fast;
@@ -27,20 +28,26 @@ pub struct Type {
     pub children: Vec<u16>,
 }
 
-fn privileges_of(it: &Type) -> usize {
+/// A format is the word 0 that names it.
+pub const ONE: u16 = 1;
+const TWO: u16 = 2;
+
+fn privileges_of(format: u16, it: &Type) -> usize {
     let n = it.children.len();
-    match it.kind {
-        TEXT => 1,
-        STAR => 2,
-        CHOICE => n * n - n,
+    match (it.kind, format) {
+        (TEXT, _) => 1,
+        (STAR, ONE) => 2,
+        (STAR, _) => 3,
+        (CHOICE, ONE) => n * n - n,
+        (CHOICE, _) => n * n,
         _ => 0,
     }
 }
 
-fn encode(types: &[Type], root: usize) -> Vec<u16> {
+fn encode(format: u16, types: &[Type], root: usize) -> Vec<u16> {
     let (e, c) = (types.len(), types.iter().map(|it| it.children.len()).sum::<usize>());
-    let v: usize = types.iter().map(privileges_of).sum();
-    let header = [1, 8 + 3 * e + c, e, root, 8, c, 8 + 3 * e, v];
+    let v: usize = types.iter().map(|it| privileges_of(format, it)).sum();
+    let header = [format as usize, 8 + 3 * e + c, e, root, 8, c, 8 + 3 * e, v];
     let mut words: Vec<u16> = header.iter().map(|&word| word as u16).collect();
     let mut first = 0;
     for it in types {
@@ -58,8 +65,8 @@ pub fn decode(words: &[u16]) -> Vec<Type> {
     records.chunks(3).map(read).collect()
 }
 
-/// E 40, C 39, V 200: choices of 6, 10 and 8, five stars, fourteen texts.
-pub fn ordinary() -> Vec<u16> {
+/// E 40, C 39, V 200, in format 2 229: choices of 6, 10 and 8, five stars, fourteen texts.
+pub fn ordinary(format: u16) -> Vec<u16> {
     let mut types = Vec::new();
     let mut add = |kind, children| types.push(Type { kind, children });
     add(SEQUENCE, (1..=8).chain(38..=39).collect());
@@ -68,22 +75,23 @@ pub fn ordinary() -> Vec<u16> {
     add(CHOICE, (25..=32).collect());
     (33..=37).for_each(|child| add(STAR, vec![child]));
     (9..=39).for_each(|leaf| add(if leaf < 23 { TEXT } else { EMPTY }, Vec::new()));
-    encode(&types, 0)
+    encode(format, &types, 0)
 }
 
 /// A table of e types and c child entries, whose last `choices` types with children are choices and the others sequences. A type with children
-/// has 16. No choice is below another; each has the last 16 types as its children, which are text. So V is 240 for each choice, and 16.
-pub fn sized(e: usize, c: usize, choices: usize) -> Vec<u16> {
+/// has 16. No choice is below another; each has the last 16 types as its children, which are text, or, in format 2, empty. So V is 240 for each
+/// choice, and 16, or, in format 2, 256 for each choice.
+pub fn sized(format: u16, e: usize, c: usize, choices: usize) -> Vec<u16> {
     let parents = c / 16;
     let mut types = Vec::new();
     for t in 0..e {
         let chosen = t < parents && t + choices >= parents;
         let children = if t < parents { children_of(e, parents, t) } else { Vec::new() };
         let kind = if chosen { CHOICE } else { SEQUENCE };
-        let leaf = if t + 16 >= e { TEXT } else { EMPTY };
+        let leaf = if t + 16 >= e && format == ONE { TEXT } else { EMPTY };
         types.push(Type { kind: if t < parents { kind } else { leaf }, children });
     }
-    encode(&types, 0)
+    encode(format, &types, 0)
 }
 
 /// The children of type t: the next 16 that have no parent yet, and after those types without children, the last ones.
@@ -106,7 +114,7 @@ pub fn cyclic() -> Vec<u16> {
     let sequence = |children| Type { kind: SEQUENCE, children };
     let mut types: Vec<Type> = (0..254).map(|t| sequence(next_ones(t))).collect();
     types.extend([sequence(vec![254]), sequence(vec![0, 255])]);
-    encode(&types, 255)
+    encode(ONE, &types, 255)
 }
 
 /// The children of type t: the next one; the next three, of type 194; the next 16, as far as there are any up to 254, from 195 on.
@@ -121,10 +129,10 @@ fn next_ones(t: u16) -> Vec<u16> {
 
 /// A largest table, E 256, C 1,024, V 4,096, with two types that are not reached: 255, which is nobody's child, and its child 254.
 fn unreached() -> Vec<u16> {
-    let mut types = decode(&sized(254, 1008, 17));
+    let mut types = decode(&sized(ONE, 254, 1008, 17));
     types.push(Type { kind: EMPTY, children: Vec::new() });
     types.push(Type { kind: SEQUENCE, children: (239..=254).collect() });
-    encode(&types, 0)
+    encode(ONE, &types, 0)
 }
 
 // ---------------------------------------------------------------- marks
@@ -133,11 +141,15 @@ fn v_of(words: &[u16]) -> usize {
     words[7] as usize
 }
 
-/// The marks of a choice of 16, the same at each choice of a table of `sized`, and those of its texts, which are the children of each choice.
+/// The marks of a choice of 16, the same at each choice of a table of `sized`, and those of its texts, which are the children of each choice; in format 2
+/// there are none.
 fn at_each_choice(words: &[u16], square: impl Fn(usize, usize) -> u8, texts: [u8; 16]) -> Vec<u8> {
-    let positions = || (0..16).flat_map(|i| (0..16).map(move |j| (i, j))).filter(|(i, j)| i != j);
-    let choice: Vec<u8> = positions().map(|(i, j)| square(i, j)).collect();
-    let mut marks: Vec<u8> = choice.repeat((v_of(words) - 16) / 240);
+    let is_one = words[0] == ONE;
+    let positions = (0..16).flat_map(|i| (0..16).map(move |j| (i, j)));
+    let positions = positions.filter(|(i, j)| i != j || !is_one);
+    let choice: Vec<u8> = positions.map(|(i, j)| square(i, j)).collect();
+    let texts = if is_one { &texts[..] } else { &[] };
+    let mut marks: Vec<u8> = choice.repeat((v_of(words) - texts.len()) / choice.len());
     marks.extend(texts);
     marks
 }
@@ -179,9 +191,10 @@ fn shuffled(e: usize, seed: u64) -> Vec<usize> {
 }
 
 /// Marks as they stand when the types stand in an order.
-fn reordered(types: &[Type], order: &[usize], marks: &[u8]) -> Vec<u8> {
-    let first = |t: usize| types[..t].iter().map(privileges_of).sum::<usize>();
-    let own = |&t: &usize| &marks[first(t)..][..privileges_of(&types[t])];
+fn reordered(format: u16, types: &[Type], order: &[usize], marks: &[u8]) -> Vec<u8> {
+    let count = |it: &Type| privileges_of(format, it);
+    let first = |t: usize| types[..t].iter().map(count).sum::<usize>();
+    let own = |&t: &usize| &marks[first(t)..][..count(&types[t])];
     order.iter().flat_map(own).copied().collect()
 }
 
@@ -193,8 +206,8 @@ fn renumbered(Case { words, marks, proposed, .. }: Case) -> Case {
     let children = |t: usize| types[t].children.iter().map(|&x| number(x)).collect();
     let moved = |&t: &usize| Type { kind: types[t].kind, children: children(t) };
     let moved: Vec<Type> = order.iter().map(moved).collect();
-    let kept = |marks: &[u8]| reordered(&types, &order, marks);
-    case(encode(&moved, number(words[3]) as usize), kept(&marks), kept(&proposed))
+    let kept = |marks: &[u8]| reordered(words[0], &types, &order, marks);
+    case(encode(words[0], &moved, number(words[3]) as usize), kept(&marks), kept(&proposed))
 }
 
 fn renumbered_input(Input { name, cases }: Input) -> Input {
@@ -222,28 +235,50 @@ const SAMPLES: [&str; 9] = [
     "11021201000",
 ];
 
+/// Policies of the sample schema in format 2; six are broken in a way that format 1 does not have.
+const SAMPLES_OF_TWO: [&str; 9] = [
+    "112000000000000",
+    "001020000000000",
+    "111020000000000",
+    "110000000000000",
+    "001000000000000",
+    "000002101000000",
+    "000000000000012",
+    "000000000010100",
+    "000001120010000",
+];
+
+/// The name of an input, by the format of its table.
+fn named(name: &str, format: u16) -> String {
+    match format {
+        ONE => name.to_string(),
+        _ => format!("{}-{}", name, format),
+    }
+}
+
 fn digits(text: &str) -> Vec<u8> {
     text.bytes().map(|byte| byte - b'0').collect()
 }
 
-/// S1 to S9 in turn; the proposed marks are those of the mend.
-fn sample() -> Input {
+/// The sample schema with these marks in turn; the proposed marks are those of the mend.
+fn sample(format: u16, samples: &[&str]) -> Input {
+    let words = encode(format, &decode(&SAMPLE), 0);
     let one = |text: &&str| {
         let marks = digits(text);
-        let proposed = mended(&SAMPLE, &marks);
-        case(SAMPLE.to_vec(), marks, proposed)
+        let proposed = mended(&words, &marks);
+        case(words.clone(), marks, proposed)
     };
-    Input { name: "sample".to_string(), cases: SAMPLES.iter().map(one).collect() }
+    Input { name: named("sample", format), cases: samples.iter().map(one).collect() }
 }
 
 /// A third of the marks each unset, allowed and forbidden; for the verdict and the completion as mended, since those are the clean ones.
-fn ordinary_input(call: Call) -> Input {
-    let words = ordinary();
+fn ordinary_input(call: Call, format: u16) -> Input {
+    let words = ordinary(format);
     let marks = by_chance(v_of(&words), &[UNSET, ALLOWED, FORBIDDEN], 1);
     let proposed = mended(&words, &marks);
     let broken = matches!(call, Call::Mend | Call::JudgeMend);
     let marks = if broken { marks } else { proposed.clone() };
-    Input { name: "ordinary".to_string(), cases: vec![case(words, marks, proposed)] }
+    Input { name: named("ordinary", format), cases: vec![case(words, marks, proposed)] }
 }
 
 /// The marks of a choice of 16 of which the mend takes most, of those that a search by chance and improvement found: 198 of 216 allowed ones. If all
@@ -270,9 +305,30 @@ const MOST_TAKEN: [&[u8; 16]; 16] = [
 /// The marks of the children's texts that go with it.
 const MOST_TAKEN_TEXTS: &[u8; 16] = b"2212122222222221";
 
+/// The same in format 2, where the children are empty: 212 of 231.
+const MOST_TAKEN_OF_TWO: [&[u8; 16]; 16] = [
+    b"1111111111111121",
+    b"1211111111111111",
+    b"1111111111211111",
+    b"1011111111111121",
+    b"1121111111111111",
+    b"0121111111111111",
+    b"1211111111111111",
+    b"1211111111111111",
+    b"1211112111111111",
+    b"1211112111111111",
+    b"2111111111111111",
+    b"2111111111111111",
+    b"2111111111121111",
+    b"2111111111211111",
+    b"2111111111211111",
+    b"2111111111211211",
+];
+
 fn most_taken(words: &[u16]) -> Vec<u8> {
     let texts = MOST_TAKEN_TEXTS.map(|digit| digit - b'0');
-    at_each_choice(words, |i, j| MOST_TAKEN[i][j] - b'0', texts)
+    let square = if words[0] == ONE { &MOST_TAKEN } else { &MOST_TAKEN_OF_TWO };
+    at_each_choice(words, |i, j| square[i][j] - b'0', texts)
 }
 
 /// The worst marks for a call on a table of `sized`.
@@ -300,19 +356,28 @@ fn scattered(words: Vec<u16>, seed: u64) -> Case {
     case(words, marks.clone(), marks)
 }
 
-/// The largest tables.
-fn largest(call: Call) -> Vec<Input> {
-    let words = || sized(256, 1024, 17);
-    let input = |name: &str, cases| Input { name: name.to_string(), cases };
-    let mut all = vec![input("largest", vec![worst(call, words())])];
-    if matches!(call, Call::JudgePolicy | Call::Complete | Call::JudgeMend) {
-        all.push(input("scattered", (1..=8).map(|seed| scattered(words(), seed)).collect()));
-    }
-    if call == Call::JudgeMend {
-        all.push(input("half-changed", vec![half_changed(words())]));
-    }
-    all.push(renumbered_input(input("largest", vec![worst(call, words())])));
-    all
+/// A largest table, V 4,096: as many choices of 16 as there may be.
+fn largest_table(format: u16) -> Vec<u16> {
+    sized(format, 256, 1024, if format == ONE { 17 } else { 16 })
+}
+
+fn largest(call: Call, format: u16) -> Input {
+    Input { name: named("largest", format), cases: vec![worst(call, largest_table(format))] }
+}
+
+/// Whether what is reached is asked of clean marks.
+fn has_scattered(call: Call) -> bool {
+    matches!(call, Call::JudgePolicy | Call::Complete | Call::JudgeMend)
+}
+
+fn scattered_input(format: u16) -> Input {
+    let cases = (1..=8).map(|seed| scattered(largest_table(format), seed)).collect();
+    Input { name: named("scattered", format), cases }
+}
+
+fn half_changed_input() -> Input {
+    let cases = vec![half_changed(largest_table(ONE))];
+    Input { name: "half-changed".to_string(), cases }
 }
 
 /// Tables that pass every check before the one that refuses them.
@@ -324,13 +389,36 @@ fn refused() -> Vec<Input> {
     vec![input("cyclic", cyclic()), input("unreached", unreached())]
 }
 
-/// The inputs of a call.
-pub fn inputs(call: Call) -> Vec<Input> {
-    let mut all = vec![sample(), ordinary_input(call), renumbered_input(ordinary_input(call))];
-    all.extend(largest(call));
+/// The inputs of a call in format 1.
+fn inputs_of_one(call: Call) -> Vec<Input> {
+    let ordinary = || ordinary_input(call, ONE);
+    let mut all =
+        vec![sample(ONE, &SAMPLES), ordinary(), renumbered_input(ordinary()), largest(call, ONE)];
+    if has_scattered(call) {
+        all.push(scattered_input(ONE));
+    }
+    if call == Call::JudgeMend {
+        all.push(half_changed_input());
+    }
+    all.push(renumbered_input(largest(call, ONE)));
     if call == Call::CheckTable {
         all.extend(refused());
     }
+    all
+}
+
+fn inputs_of_two(call: Call) -> Vec<Input> {
+    let mut all = vec![sample(TWO, &SAMPLES_OF_TWO), ordinary_input(call, TWO), largest(call, TWO)];
+    if has_scattered(call) {
+        all.push(scattered_input(TWO));
+    }
+    all
+}
+
+/// The inputs of a call.
+pub fn inputs(call: Call) -> Vec<Input> {
+    let mut all = inputs_of_one(call);
+    all.extend(inputs_of_two(call));
     all
 }
 
@@ -350,7 +438,7 @@ pub fn doubling(call: Call) -> Vec<Input> {
     ];
     let input = |&(e, c, choices): &(usize, usize, usize)| Input {
         name: format!("E{}-C{}-V{}", e, c, 240 * choices + 16),
-        cases: vec![worst(call, sized(e, c, choices))],
+        cases: vec![worst(call, sized(ONE, e, c, choices))],
     };
     sizes.iter().map(input).collect()
 }

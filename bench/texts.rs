@@ -1,7 +1,7 @@
 // The DTD texts that are measured, most of them as long as a text may be: runs of one thing, tables as texts, groups as deep as they may be, and the
 // text that takes longest of those tried; and texts that double.
 
-use crate::inputs::{cyclic, decode, ordinary, sized, Type, CHOICE, EMPTY, SEQUENCE, TEXT};
+use crate::inputs::{cyclic, decode, ordinary, sized, Type, CHOICE, EMPTY, ONE, SEQUENCE, TEXT};
 use second::dtd_case::DtdCase;
 
 /// The most bytes that a text may have.
@@ -88,7 +88,7 @@ fn blanked(text: String) -> String {
 
 /// The largest table: E 256, C 1,024, V 4,096. The types declared last are used most.
 fn largest() -> Vec<Type> {
-    decode(&sized(256, 1024, 17))
+    decode(&sized(ONE, 256, 1024, 17))
 }
 
 /// The same, but the last name used is that of no type.
@@ -135,7 +135,7 @@ pub fn texts() -> Vec<Text> {
     let of_table = |types: &[Type], name| commented(&declarations(types, name, 0), LONGEST);
     vec![
         text("show", include_str!("../samples/show.dtd").to_string()),
-        text("ordinary", declarations(&decode(&ordinary()), short, 0).concat()),
+        text("ordinary", declarations(&decode(&ordinary(ONE)), short, 0).concat()),
         text("comment", commented(&[SHORTEST.to_string()], LONGEST)),
         text("blanks", blanked(SHORTEST.to_string())),
         text("choice", format!("<!ELEMENT a (a{})>", "|a".repeat(32_760))),
@@ -151,7 +151,7 @@ pub fn texts() -> Vec<Text> {
 
 /// A text of so many types and child entries, with comments up to so many KiB.
 fn of_size(e: usize, c: usize, kib: usize, name: Name) -> Text {
-    let declared = declarations(&decode(&sized(e, c, 1)), name, 0);
+    let declared = declarations(&decode(&sized(ONE, e, c, 1)), name, 0);
     text(&format!("E{}-C{}-{}K", e, c, kib), commented(&declared, 1024 * kib))
 }
 
