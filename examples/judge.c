@@ -11,20 +11,23 @@ static void say_breach(finnedscarf_outcome o)
     switch (o.condition) {
     case FINNEDSCARF_INSERT_DELETE:
         printf("condition 1 at type %zu: insert and delete, or in format 2 replace, are allowed, and privilege %zu, which they can "
-               "imitate, is forbidden\n",
+               "imitate, is forbidden",
                o.type, o.privilege);
         break;
     case FINNEDSCARF_CHAIN:
         printf("condition 2 at type %zu: allowed replacements lead from position %zu to %zu, and privilege %zu, that replacement, is "
-               "forbidden\n",
+               "forbidden",
                o.type, o.i, o.j, o.privilege);
         break;
     case FINNEDSCARF_CYCLE:
         printf("condition 3 at type %zu: allowed replacements lead from position %zu back to it, and privilege %zu below the child there "
-               "is forbidden\n",
+               "is forbidden",
                o.type, o.i, o.privilege);
         break;
     }
+    if (o.forbidden > 1)
+        printf(", the lowest of %zu", o.forbidden);
+    putchar('\n');
 }
 
 int main(void)

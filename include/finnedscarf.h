@@ -94,7 +94,7 @@ enum {
     FINNEDSCARF_CYCLE = 3          /* at a choice, allowed replacements lead from i back to i, and a privilege below it is forbidden */
 };
 
-/* What a call answers. The last five tell the breach, and are 0 where there is none. */
+/* What a call answers. The last six tell the breach, and are 0 where there is none. */
 typedef struct {
     size_t number;    /* FINNEDSCARF_DONE, or why the call was refused */
     size_t place;     /* as said at the number */
@@ -105,6 +105,8 @@ typedef struct {
     size_t j;         /* position; 0 for condition 1, and i for condition 3 */
     size_t privilege; /* the forbidden replacement for condition 2, the star's replace for condition 1 if that is forbidden, else the
                          lowest forbidden privilege below the child */
+    size_t forbidden; /* how many are forbidden there: 1 for condition 2, and for condition 1 if the star's replace is forbidden, else all
+                         forbidden privileges below the child, each counted once even if two paths lead to it */
 } finnedscarf_outcome;
 
 /* Checks a table: 0 with V as place, or 1 to 9 or 19. */
@@ -120,7 +122,7 @@ finnedscarf_outcome finnedscarf_check_table(const uint16_t *words, size_t words_
 finnedscarf_outcome finnedscarf_read_dtd(const uint8_t *text, size_t text_length, uint16_t *out, size_t out_length);
 
 /*
- * Judges a policy: 0 with the first breach, five zeros if it is clean, or 1 to 11 or 19. The first is that of the lowest type; there condition 2
+ * Judges a policy: 0 with the first breach, six zeros if it is clean, or 1 to 11 or 19. The first is that of the lowest type; there condition 2
  * comes before 3, and then the lowest i, and then the lowest j.
  */
 finnedscarf_outcome finnedscarf_judge_policy(const uint16_t *words, size_t words_length, const uint8_t *marks, size_t marks_length);

@@ -7,6 +7,8 @@ pub struct Breach {
     pub i: usize,
     pub j: usize,
     pub privilege: usize,
+    /// How many privileges are forbidden there (request 8).
+    pub forbidden: usize,
 }
 
 #[derive(Clone, Copy, Debug, Default, PartialEq)]
@@ -42,11 +44,13 @@ pub fn refuse_breach(breach: Option<Breach>) -> Result<(), Answer> {
     }
 }
 
+/// The numbers of a breach that the program judge prints: all but the last.
 pub fn breach_text(breach: &Breach) -> String {
-    let Breach { condition, of, i, j, privilege } = breach;
+    let Breach { condition, of, i, j, privilege, .. } = breach;
     format!("{} {} {} {} {}", condition, of, i, j, privilege)
 }
 
 pub fn answer_text(answer: &Answer) -> String {
-    format!("{} {} {} {}", answer.number, answer.place, answer.count, breach_text(&answer.breach))
+    let Answer { number, place, count, breach } = answer;
+    format!("{} {} {} {} {}", number, place, count, breach_text(breach), breach.forbidden)
 }

@@ -34,7 +34,7 @@ impl Told {
         Told { answer: answer(outcome), written }
     }
 
-    /// The eight numbers of the answer, and each run, two hexadecimal digits a byte.
+    /// The nine numbers of the answer, and each run, two hexadecimal digits a byte.
     pub fn text(&self) -> String {
         let run = |bytes: &Vec<u8>| format!(" {}", hex(bytes));
         answer_text(&self.answer) + &self.written.iter().map(run).collect::<String>()

@@ -10,8 +10,8 @@ pub fn completion(table: &Table, marks: &[u8]) -> Vec<u8> {
     let mut now: Vec<u8> = marks.iter().map(only_allowed).collect();
     loop {
         let before = now.clone();
-        for breach in forced(table, &before) {
-            now[breach.privilege] = ALLOWED;
+        for it in forced(table, &before) {
+            now[it.privilege] = ALLOWED;
         }
         if now == before {
             return now.iter().map(|&mark| if mark == ALLOWED { ALLOWED } else { FORBIDDEN }).collect();

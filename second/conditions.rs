@@ -1,6 +1,7 @@
 // The three conditions: what they force, the first breach, and the call `verdict`.
 
 use crate::answers::{refuse_at, refuse_if, Answer, Breach, Outcome};
+use crate::forbidden_below::forbidden_below;
 use crate::table::{check_table, Table, ALLOWED, CHOICE, FORBIDDEN, STAR};
 
 /// The positions reached from i by one or more allowed replacements, breadth first.
@@ -21,8 +22,17 @@ pub fn reached(table: &Table, marks: &[u8], choice: usize, i: usize) -> Vec<bool
     found
 }
 
+/// A privilege that must not be forbidden, and where a condition says so.
+pub struct Forced {
+    pub condition: usize,
+    pub of: usize,
+    pub i: usize,
+    pub j: usize,
+    pub privilege: usize,
+}
+
 /// Insert and delete force the exchange, where there is one; these two, or the exchange, force what is below the child.
-fn forced_by_star(table: &Table, marks: &[u8], of: usize) -> Vec<Breach> {
+fn forced_by_star(table: &Table, marks: &[u8], of: usize) -> Vec<Forced> {
     let child = table.types[of].children[0];
     let exchange = table.exchange(of);
     let both = table.allows_both(marks, of);
@@ -33,30 +43,30 @@ fn forced_by_star(table: &Table, marks: &[u8], of: usize) -> Vec<Breach> {
     if both || exchange.map_or(false, |privilege| marks[privilege] == ALLOWED) {
         forced.extend(&table.below[child]);
     }
-    forced.into_iter().map(|privilege| Breach { condition: 1, of, i: 0, j: 0, privilege }).collect()
+    forced.into_iter().map(|privilege| Forced { condition: 1, of, i: 0, j: 0, privilege }).collect()
 }
 
-fn forced_by_choice(table: &Table, marks: &[u8], of: usize) -> Vec<Breach> {
+fn forced_by_choice(table: &Table, marks: &[u8], of: usize) -> Vec<Forced> {
     let children = &table.types[of].children;
     let n = children.len();
     let reach: Vec<Vec<bool>> = (0..n).map(|i| reached(table, marks, of, i)).collect();
     let mut forced = Vec::new();
     for i in 0..n {
         for j in (0..n).filter(|&j| table.format.is_replaceable(i, j) && reach[i][j]) {
-            forced.push(Breach { condition: 2, of, i, j, privilege: table.replacement(of, i, j) });
+            forced.push(Forced { condition: 2, of, i, j, privilege: table.replacement(of, i, j) });
         }
     }
     for i in (0..n).filter(|&i| reach[i][i]) {
         for &privilege in &table.below[children[i]] {
-            forced.push(Breach { condition: 3, of, i, j: i, privilege });
+            forced.push(Forced { condition: 3, of, i, j: i, privilege });
         }
     }
     forced
 }
 
 /// What the three conditions say of one type: the privileges that must not be forbidden,
-/// each as the breach it would be, in the stated order.
-fn forced_at(table: &Table, marks: &[u8], of: usize) -> Vec<Breach> {
+/// in the stated order of the breaches that they would be.
+fn forced_at(table: &Table, marks: &[u8], of: usize) -> Vec<Forced> {
     match table.types[of].kind {
         STAR => forced_by_star(table, marks, of),
         CHOICE => forced_by_choice(table, marks, of),
@@ -64,12 +74,24 @@ fn forced_at(table: &Table, marks: &[u8], of: usize) -> Vec<Breach> {
     }
 }
 
-pub fn forced<'a>(table: &'a Table, marks: &'a [u8]) -> impl Iterator<Item = Breach> + 'a {
+pub fn forced<'a>(table: &'a Table, marks: &'a [u8]) -> impl Iterator<Item = Forced> + 'a {
     (0..table.types.len()).flat_map(move |of| forced_at(table, marks, of))
 }
 
+/// How many are forbidden: one for condition 2 and for a forbidden exchange, else as many as are below the child.
+fn count_at(table: &Table, marks: &[u8], at: &Forced) -> usize {
+    match at.condition {
+        2 => 1,
+        1 if table.exchange(at.of) == Some(at.privilege) => 1,
+        _ => forbidden_below(table, marks, table.types[at.of].children[at.i]).count,
+    }
+}
+
 pub fn first_breach(table: &Table, marks: &[u8]) -> Option<Breach> {
-    forced(table, marks).find(|breach| marks[breach.privilege] == FORBIDDEN)
+    let at = forced(table, marks).find(|it| marks[it.privilege] == FORBIDDEN)?;
+    let forbidden = count_at(table, marks, &at);
+    let Forced { condition, of, i, j, privilege } = at;
+    Some(Breach { condition, of, i, j, privilege, forbidden })
 }
 
 /// The table's numbers, then 10 and 11.

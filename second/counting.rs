@@ -1,4 +1,4 @@
-// How often each call gave each number and each condition, and how often each situation of format 2 came.
+// How often each call gave each number and each condition, and how often each situation of requests 8 and 9 came.
 
 use crate::answers::Answer;
 use crate::calls::{Call, POLICY, TABLE};
@@ -6,7 +6,7 @@ use crate::cases::{read_cases, Case};
 use crate::dtd_case;
 use crate::format::Format;
 use crate::policy_case::{self, PolicyCase};
-use crate::situations::{names, situations};
+use crate::situations::{Situations, OF_COUNTS, OF_FORMAT_TWO};
 use std::collections::BTreeMap;
 
 /// The numbers in the order of the checks.
@@ -118,40 +118,46 @@ impl Counts {
     }
 }
 
-/// How often each situation of format 2 came.
-struct Situations(Vec<(&'static str, usize)>);
+/// How often each situation of a request came.
+struct Found {
+    situations: Situations,
+    rows: Vec<(&'static str, usize)>,
+}
 
-impl Situations {
-    fn new() -> Situations {
-        Situations(names().into_iter().map(|name| (name, 0)).collect())
+impl Found {
+    fn new(situations: Situations) -> Found {
+        let rows = (situations.names)().into_iter().map(|name| (name, 0)).collect();
+        Found { situations, rows }
     }
 
     fn add(&mut self, case: &PolicyCase) {
-        let found = situations(case);
-        self.0.iter_mut().filter(|row| found.contains(&row.0)).for_each(|row| row.1 += 1);
+        let found = (self.situations.found)(case);
+        self.rows.iter_mut().filter(|row| found.contains(&row.0)).for_each(|row| row.1 += 1);
     }
 
     fn fewest(&self) -> usize {
-        self.0.iter().map(|row| row.1).min().unwrap_or(0)
+        self.rows.iter().map(|row| row.1).min().unwrap_or(0)
     }
 
     fn text(&self) -> String {
-        let lines: String = self.0.iter().map(|(name, count)| format!("{:>6}  {}\n", count, name)).collect();
-        lines + &format!("fewest of the situations of format 2: {}\n", self.fewest())
+        let line = |(name, count): &(&str, usize)| format!("{:>6}  {}\n", count, name);
+        let lines: String = self.rows.iter().map(line).collect();
+        lines + &format!("fewest of the situations of {}: {}\n", self.situations.of, self.fewest())
     }
 }
 
-/// What came of cases, of those with format 2 apart, and of the situations.
+/// What came of cases, of those with format 2 apart, and of the situations of each request.
 pub struct Overview {
     all: Counts,
     of_two: Counts,
-    situations: Situations,
+    format_two: Found,
+    counts: Found,
 }
 
 impl Overview {
     pub fn of(cases: impl Iterator<Item = Case>) -> Overview {
-        let (all, of_two, situations) = (Counts::new(), Counts::new(), Situations::new());
-        let mut overview = Overview { all, of_two, situations };
+        let (format_two, counts) = (Found::new(OF_FORMAT_TWO), Found::new(OF_COUNTS));
+        let mut overview = Overview { all: Counts::new(), of_two: Counts::new(), format_two, counts };
         cases.for_each(|case| overview.add(&case));
         overview
     }
@@ -164,17 +170,26 @@ impl Overview {
                 self.of_two.add(name, &told.answer);
             }
         }
-        case.policy().into_iter().for_each(|policy| self.situations.add(policy));
+        if let Some(policy) = case.policy() {
+            self.format_two.add(policy);
+            self.counts.add(policy);
+        }
     }
 
     /// The fewest of what can come of format 2: a number, a condition, a situation.
     pub fn fewest_of_two(&self) -> usize {
-        self.of_two.fewest().min(self.situations.fewest())
+        self.of_two.fewest().min(self.format_two.fewest())
+    }
+
+    /// The fewest of the situations of request 8.
+    pub fn fewest_of_counts(&self) -> usize {
+        self.counts.fewest()
     }
 
     fn text(&self) -> String {
-        let Overview { all, of_two, situations } = self;
-        format!("{}\nof format 2\n{}\n{}", all.text(), of_two.text(), situations.text())
+        let Overview { all, of_two, format_two, counts } = self;
+        let tables = format!("{}\nof format 2\n{}", all.text(), of_two.text());
+        format!("{}\n{}\n{}", tables, format_two.text(), counts.text())
     }
 }
 

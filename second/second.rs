@@ -10,6 +10,7 @@ pub mod counting;
 pub mod dtd;
 pub mod dtd_case;
 mod files;
+mod forbidden_below;
 pub mod format;
 mod judge;
 pub mod making;

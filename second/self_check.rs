@@ -1,7 +1,9 @@
 // The second program's check of itself.
 
+mod counts;
 pub mod dtds;
 mod every;
+mod forbidden_below;
 mod literal;
 mod policies;
 mod samples;
@@ -12,8 +14,10 @@ mod tickets;
 use crate::fail;
 use crate::format::Format;
 use crate::making::chance::Random;
+use counts::self_counts;
 use dtds::self_dtds;
 use every::self_every;
+use forbidden_below::self_forbidden_below;
 use policies::{self_policy, self_renumbered, small_policy, unset};
 use samples::self_samples;
 use second_format::self_second_format;
@@ -71,11 +75,14 @@ fn self_format(seed: u64, format: Format, count: usize) -> String {
 pub fn self_check(seed: u64, count: usize) -> String {
     self_samples();
     self_named_tables();
+    self_forbidden_below();
     [
-        "self: S1 to S10 in both numberings, samples of format 2 and the named tables hold\n".to_string(),
+        "self: S1 to S10 in both numberings, samples of format 2, known counts and the named tables hold\n"
+            .to_string(),
         self_format(seed, Format::One, count),
         self_format(seed, Format::Two, count),
         self_second_format(seed),
+        self_counts(seed),
         self_dtds(seed, count),
     ]
     .concat()

@@ -1,7 +1,8 @@
-// What request 9 brings besides numbers and conditions: the situations that a case of format 2 can be in, by name.
+// What requests 8 and 9 bring besides numbers and conditions: the situations that a case can be in, by name.
 
 mod breaches;
 mod completions;
+mod counts;
 mod mends;
 mod policy;
 mod proposals;
@@ -13,17 +14,41 @@ use policy::Policy;
 /// A situation of a policy that is not refused: its name, and whether a policy is in it.
 type Situation = (&'static str, fn(&Policy) -> bool);
 
+/// The situations that a request brings: of what they are, their names, and those that a case is in.
+pub struct Situations {
+    pub of: &'static str,
+    pub names: fn() -> Vec<&'static str>,
+    pub found: fn(&PolicyCase) -> Vec<&'static str>,
+}
+
+/// Request 8: in both formats.
+pub const OF_COUNTS: Situations = Situations {
+    of: "the count",
+    names: || names_of(counts::SITUATIONS),
+    found: |case| Policy::of(case).map_or(Vec::new(), |policy| found_in(&policy, counts::SITUATIONS)),
+};
+
+/// Request 9: first those that a table brings, then those of a policy of format 2.
+pub const OF_FORMAT_TWO: Situations = Situations {
+    of: "format 2",
+    names: || [tables::SITUATIONS.iter().map(|situation| situation.0).collect(), of_policies()].concat(),
+    found: |case| [tables_in(case), policies_in(case)].concat(),
+};
+
 const OF_POLICIES: [&[Situation]; 4] =
     [breaches::SITUATIONS, mends::SITUATIONS, completions::SITUATIONS, proposals::SITUATIONS];
 
-/// The names of the situations that a policy brings.
-pub fn of_policies() -> Vec<&'static str> {
-    OF_POLICIES.concat().iter().map(|situation| situation.0).collect()
+fn names_of(situations: &[Situation]) -> Vec<&'static str> {
+    situations.iter().map(|situation| situation.0).collect()
 }
 
-/// The names of all situations, first of those that a table brings.
-pub fn names() -> Vec<&'static str> {
-    tables::SITUATIONS.iter().map(|situation| situation.0).chain(of_policies()).collect()
+fn found_in(policy: &Policy, situations: &[Situation]) -> Vec<&'static str> {
+    situations.iter().filter(|situation| (situation.1)(policy)).map(|situation| situation.0).collect()
+}
+
+/// The names of the situations that a policy of format 2 brings.
+pub fn of_policies() -> Vec<&'static str> {
+    names_of(&OF_POLICIES.concat())
 }
 
 fn tables_in(case: &PolicyCase) -> Vec<&'static str> {
@@ -32,19 +57,12 @@ fn tables_in(case: &PolicyCase) -> Vec<&'static str> {
 }
 
 fn policies_in(case: &PolicyCase) -> Vec<&'static str> {
-    let Some(policy) = Policy::of(case) else { return Vec::new() };
-    let all = OF_POLICIES.concat();
-    all.iter().filter(|situation| (situation.1)(&policy)).map(|situation| situation.0).collect()
+    Policy::of_two(case).map_or(Vec::new(), |policy| found_in(&policy, &OF_POLICIES.concat()))
 }
 
-/// Whether a case is in this situation of a policy.
+/// Whether a case is in this situation of a policy of format 2.
 pub fn is_in(case: &PolicyCase, name: &str) -> bool {
     let situation = OF_POLICIES.concat().into_iter().find(|situation| situation.0 == name);
     let holds = situation.expect("a situation of that name").1;
-    Policy::of(case).map_or(false, |policy| holds(&policy))
-}
-
-/// The situations that a case is in.
-pub fn situations(case: &PolicyCase) -> Vec<&'static str> {
-    [tables_in(case), policies_in(case)].concat()
+    Policy::of_two(case).map_or(false, |policy| holds(&policy))
 }

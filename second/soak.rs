@@ -14,8 +14,8 @@ use second::policy_case::{self, PolicyCase};
 use std::hint::black_box;
 
 fn outcome_of(told: border::Outcome) -> Outcome {
-    let border::Outcome { number, place, count, condition, element, i, j, privilege } = told;
-    let breach = Breach { condition, of: element, i, j, privilege };
+    let border::Outcome { number, place, count, condition, element, i, j, privilege, forbidden } = told;
+    let breach = Breach { condition, of: element, i, j, privilege, forbidden };
     let answer = Answer { number, place, count, breach };
     if number == 0 {
         Ok(answer)

@@ -108,8 +108,8 @@ static int more(void)
 
 static void put_outcome(size_t number, const char *call, finnedscarf_outcome o)
 {
-    printf("%zu %s %s %zu %zu %s %zu %zu %zu %zu", number, call, number_text(o.number), o.place, o.count, condition_text(o.condition),
-           o.type, o.i, o.j, o.privilege);
+    printf("%zu %s %s %zu %zu %s %zu %zu %zu %zu %zu", number, call, number_text(o.number), o.place, o.count,
+           condition_text(o.condition), o.type, o.i, o.j, o.privilege, o.forbidden);
 }
 
 static void put_run(const uint8_t *run, size_t length)

@@ -33,17 +33,17 @@ impl Stream {
     }
 }
 
-/// The five numbers of a breach, zeros where there is none.
+/// The six numbers of a breach, zeros where there is none.
 fn breach_text(breach: Option<Breach>) -> String {
-    let Some(Breach { condition, element, i, j, privilege }) = breach else {
-        return "0 0 0 0 0".to_string();
+    let Some(Breach { condition, element, i, j, privilege, forbidden }) = breach else {
+        return "0 0 0 0 0 0".to_string();
     };
     let number = match condition {
         Condition::InsertDelete => 1,
         Condition::Chain => 2,
         Condition::Cycle => 3,
     };
-    format!("{number} {element} {i} {j} {privilege}")
+    format!("{number} {element} {i} {j} {privilege} {forbidden}")
 }
 
 /// What a done call tells; what it has no word for is 0.

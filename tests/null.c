@@ -115,6 +115,11 @@ static finnedscarf_outcome by_address(int call, struct runs r)
     }
 }
 
+static int has_breach(finnedscarf_outcome o)
+{
+    return o.condition || o.type || o.i || o.j || o.privilege || o.forbidden;
+}
+
 /* Makes a call in which some runs are empty: those of `none`, which are all empty. */
 static void try_call(int call, int address, size_t v, int empty, struct runs none)
 {
@@ -146,8 +151,7 @@ static void try_call(int call, int address, size_t v, int empty, struct runs non
         first = FINNEDSCARF_FORBIDDEN;
     if (v == 1 && number == 0 && call == MEND)
         first = FINNEDSCARF_UNSET;
-    if (o.number != number || o.place != place || o.count != count || o.condition || o.type || o.i || o.j || o.privilege ||
-        third[0] != first || third[1] != 9) {
+    if (o.number != number || o.place != place || o.count != count || has_breach(o) || third[0] != first || third[1] != 9) {
         printf("tests/null: %s by %s, V %zu, empty runs %d: number %zu, place %zu, count %zu, third run %d %d, where %zu, %zu, %zu, %d 9 "
                "and no breach is right\n",
                calls[call].name, address ? "address" : "name", v, empty, o.number, o.place, o.count, third[0], third[1], number, place,
@@ -174,7 +178,7 @@ static void try_read(int address, size_t v, int empty, const uint8_t *no_text, u
     int right = table[11] == 9;
     for (int k = 0; k < 11; k++)
         right = right && table[k] == (number == 0 ? tables[v][k] : 9);
-    if (o.number != number || o.place != place || o.count || o.condition || o.type || o.i || o.j || o.privilege || !right) {
+    if (o.number != number || o.place != place || o.count || has_breach(o) || !right) {
         printf("tests/null: read_dtd by %s, V %zu, empty runs %d: number %zu, place %zu, where %zu, %zu is right%s\n",
                address ? "address" : "name", v, empty, o.number, o.place, number, place, right ? "" : ", and another result");
         exit(1);

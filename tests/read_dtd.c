@@ -1,5 +1,5 @@
 /*
- * tests/read_dtd COUNT: reads the DTD text on standard input into COUNT words, each 65535 before, and prints the eight fields of the answer
+ * tests/read_dtd COUNT: reads the DTD text on standard input into COUNT words, each 65535 before, and prints the nine fields of the answer
  * and the words as they are afterwards.
  */
 #include <stdio.h>
@@ -21,7 +21,7 @@ int main(int argc, char **argv)
     size_t length = fread(text, 1, sizeof text, stdin);
 
     finnedscarf_outcome o = finnedscarf_read_dtd(text, length, out, count);
-    printf("%zu %zu %zu %zu %zu %zu %zu %zu", o.number, o.place, o.count, o.condition, o.type, o.i, o.j, o.privilege);
+    printf("%zu %zu %zu %zu %zu %zu %zu %zu %zu", o.number, o.place, o.count, o.condition, o.type, o.i, o.j, o.privilege, o.forbidden);
     for (size_t k = 0; k < count; k++)
         printf(" %u", out[k]);
     putchar('\n');

@@ -6,7 +6,7 @@ use crate::making::schemas::Schema;
 use crate::table::{check_table, Type, CHOICE, EMPTY, SEQUENCE, STAR, TEXT};
 
 /// Types as kind and children, type 0 being the root.
-type Shape = &'static [(u16, &'static [usize])];
+pub type Shape = &'static [(u16, &'static [usize])];
 
 const SHAPES: [Shape; 12] = [
     &[(STAR, &[1]), (TEXT, &[])],
@@ -23,7 +23,7 @@ const SHAPES: [Shape; 12] = [
     &[(STAR, &[1]), (CHOICE, &[2, 3]), (TEXT, &[]), (EMPTY, &[])],
 ];
 
-fn schema(format: Format, shape: Shape) -> Schema {
+pub fn schema(format: Format, shape: Shape) -> Schema {
     let types = shape.iter().map(|&(kind, children)| Type { kind, children: children.to_vec() });
     Schema::of(format, types.collect())
 }

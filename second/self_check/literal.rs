@@ -24,7 +24,8 @@ fn is_below(types: &[Type], x: usize, y: usize) -> bool {
     x == y || types[y].children.iter().any(|&child| is_below(types, x, child))
 }
 
-fn forbidden_below(table: &Table, marks: &[u8], y: usize) -> Vec<usize> {
+/// The forbidden privileges below a type, in ascending order: each privilege of the table is asked once.
+pub fn forbidden_below(table: &Table, marks: &[u8], y: usize) -> Vec<usize> {
     let below = |p: usize| is_below(&table.types, table.owner[p], y);
     (0..table.v()).filter(|&p| marks[p] == FORBIDDEN && below(p)).collect()
 }
@@ -67,6 +68,11 @@ pub fn breaches(table: &Table, marks: &[u8]) -> Vec<[usize; 5]> {
         }
     }
     found
+}
+
+/// How many are forbidden where a breach is: as many as the conditions can name there.
+pub fn count_there(breaches: &[[usize; 5]], breach: &[usize; 5]) -> usize {
+    breaches.iter().filter(|other| other[..4] == breach[..4]).count()
 }
 
 fn choice_breaches(table: &Table, marks: &[u8], t: usize, found: &mut Vec<[usize; 5]>) {

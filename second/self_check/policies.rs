@@ -1,11 +1,12 @@
 // Small policies: against what is read literally, against all their fully decided extensions, in another numbering and in format 2.
 
 use super::expect;
-use super::literal::{breaches, mended_literally, passes};
+use super::literal::{self, breaches, count_there, mended_literally, passes};
 use super::tickets::self_tickets;
 use crate::answers::{answer, Answer, Breach};
 use crate::completing::complete;
 use crate::conditions::{first_breach, verdict};
+use crate::forbidden_below::{forbidden_below, ForbiddenBelow};
 use crate::format::Format;
 use crate::making::chance::Random;
 use crate::making::policies::policy;
@@ -14,10 +15,30 @@ use crate::mending::{judge_mend, mend, mended};
 use crate::table::{check_table, Table, ALLOWED, FORBIDDEN, UNSET};
 
 fn self_verdict(words: &[u16], table: &Table, marks: &[u8]) {
-    let least = breaches(table, marks).into_iter().min().unwrap_or([0; 5]);
+    let all = breaches(table, marks);
+    let least = all.iter().min().copied().unwrap_or_default();
     let [of, condition, i, j, privilege] = least;
-    let breach = Breach { condition, of, i, j, privilege };
+    let breach = Breach { condition, of, i, j, privilege, forbidden: count_there(&all, &least) };
     expect(verdict(words, marks) == Ok(Answer { breach, ..Answer::default() }), "the first breach");
+}
+
+/// Completing is refused with the same breach, and so is a proposal of the same marks.
+pub fn self_refusals(words: &[u16], marks: &[u8]) {
+    let breach = answer(verdict(words, marks)).breach;
+    let refusal = Answer { number: 16, breach, ..Answer::default() };
+    let expected = if breach == Breach::default() { Ok(Answer::default()) } else { Err(refusal) };
+    expect(complete(words, marks, &mut marks.to_vec()) == expected, "the breach told when completing");
+    expect(judge_mend(words, marks, marks) == expected, "the breach told when proposing");
+}
+
+/// The question of request 8, of every type.
+fn self_below(table: &Table, marks: &[u8]) {
+    for y in 0..table.types.len() {
+        let forbidden = literal::forbidden_below(table, marks, y);
+        let lowest = forbidden.first().copied().unwrap_or(0);
+        let expected = ForbiddenBelow { lowest, count: forbidden.len() };
+        expect(forbidden_below(table, marks, y) == expected, "what is forbidden below a type");
+    }
 }
 
 /// Every fully decided policy that keeps the set marks and passes.
@@ -91,7 +112,7 @@ fn carried(from: &Table, to: &Table, numbers: &[usize], marks: &[u8]) -> Vec<u8>
     after
 }
 
-/// In another numbering a policy is clean as it was, and its completion is the same.
+/// In another numbering a policy is clean as it was, its completion is the same, and as many privileges are forbidden below each type.
 pub fn self_renumbered(r: &mut Random, schema: &Schema, table: &Table, marks: &[u8]) {
     let numbers = chance_numbers(r, table.types.len());
     let (words, other) = (schema.words(), schema.renumbered(&numbers).words());
@@ -101,6 +122,9 @@ pub fn self_renumbered(r: &mut Random, schema: &Schema, table: &Table, marks: &[
     expect(clean(&words, marks) == clean(&other, &after), "clean in every numbering");
     let expected = completed(&words, marks).map(|out| carried(table, &to, &numbers, &out));
     expect(completed(&other, &after) == expected, "the same completion in every numbering");
+    let count = |table: &Table, marks: &[u8], y: usize| forbidden_below(table, marks, y).count;
+    let kept = |y: usize| count(table, marks, y) == count(&to, &after, numbers[y]);
+    expect((0..numbers.len()).all(kept), "as many are forbidden below in every numbering");
 }
 
 /// The marks of a policy of format 1 in the table of the same types in format 2, where replacements by the same kind are unset.
@@ -118,8 +142,8 @@ fn self_in_format_two(schema: &Schema, table: &Table, marks: &[u8]) {
     let to = check_table(&words).expect("a small table is accepted in both formats");
     let carried = |marks: &[u8]| in_format_two(table, &to, marks);
     let (first, other) = (first_breach(table, marks), first_breach(&to, &carried(marks)));
-    let place = |breach: Option<Breach>| breach.map(|at| (at.condition, at.of, at.i, at.j));
-    expect(place(first) == place(other), "the same breach in format 2");
+    let known = |breach: Option<Breach>| breach.map(|at| (at.condition, at.of, at.i, at.j, at.forbidden));
+    expect(known(first) == known(other), "the same breach in format 2");
     let (count, after) = mended(table, marks);
     expect(mended(&to, &carried(marks)) == (count, carried(&after)), "the same mend in format 2");
 }
@@ -128,6 +152,8 @@ fn self_in_format_two(schema: &Schema, table: &Table, marks: &[u8]) {
 pub fn self_policy(schema: &Schema, table: &Table, marks: &[u8]) -> (bool, usize) {
     let words = schema.words();
     self_verdict(&words, table, marks);
+    self_refusals(&words, marks);
+    self_below(table, marks);
     self_one_more(&words, marks);
     self_mend(&words, table, marks);
     if table.format == Format::One {

@@ -154,7 +154,7 @@ fn self_same_kinds(table: &Table, marks: &[u8], done: &[bool], one_tree: impl Fn
     let mut imitated = (0..marks.len()).filter(|&p| done[p]).filter(is_forbidden);
     let clean = first_breach(table, marks).is_none();
     expect(!clean || imitated.all(|p| table.is_same_kind(p)), "a forbidden edit is imitated");
-    let mut broken = forced(table, marks).map(|breach| breach.privilege).filter(is_forbidden);
+    let mut broken = forced(table, marks).map(|it| it.privilege).filter(is_forbidden);
     expect(broken.all(|p| done[p] || one_tree(p)), "a breach is imitated");
 }
 
@@ -197,7 +197,7 @@ pub fn self_tickets(schema: &Schema, table: &Table, marks: &[u8]) -> usize {
     let steps: Vec<Vec<(usize, usize)>> = tickets.iter().map(steps_of).collect();
     let done = imitated(&steps, marks);
     let mut granted: Vec<bool> = marks.iter().map(|&mark| mark == ALLOWED).collect();
-    forced(table, marks).for_each(|breach| granted[breach.privilege] = true);
+    forced(table, marks).for_each(|it| granted[it.privilege] = true);
     let changing = changing(&steps, table.v());
     let one_tree = |p: usize| kind_of(table, p).map_or(false, |kind| small[kind].len() == 1);
     expect((0..table.v()).all(|p| changing[p] != one_tree(p)), "only a kind of one tree cannot be changed");

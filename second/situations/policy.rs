@@ -1,10 +1,10 @@
-// A policy of format 2 that is not refused, and what is asked of it.
+// A policy that is not refused, and what is asked of it. What speaks of the exchange or of replacing i by i is asked in format 2 only.
 
-use crate::answers::Breach;
-use crate::completing::completion;
+use crate::answers::{Breach, Outcome};
+use crate::completing::{complete, completion};
 use crate::conditions::{check_policy, first_breach, reached};
 use crate::format::Format;
-use crate::mending::mending_steps;
+use crate::mending::{judge_mend, mending_steps};
 use crate::policy_case::PolicyCase;
 use crate::table::{Table, ALLOWED, UNSET};
 use std::cell::OnceCell;
@@ -18,12 +18,21 @@ pub struct Policy<'a> {
     completion: OnceCell<Option<Vec<u8>>>,
 }
 
+/// The breach of a refusal with 16.
+fn refused_breach(outcome: Outcome) -> Option<Breach> {
+    outcome.err().filter(|refusal| refusal.number == 16).map(|refusal| refusal.breach)
+}
+
 impl Policy<'_> {
     pub fn of(case: &PolicyCase) -> Option<Policy<'_>> {
-        let table =
-            check_policy(&case.words, &case.marks).ok().filter(|table| table.format == Format::Two)?;
+        let table = check_policy(&case.words, &case.marks).ok()?;
         let breach = first_breach(&table, &case.marks);
         Some(Policy { case, table, breach, steps: OnceCell::new(), completion: OnceCell::new() })
+    }
+
+    /// The same, of format 2.
+    pub fn of_two(case: &PolicyCase) -> Option<Policy<'_>> {
+        Policy::of(case).filter(|policy| policy.table.format == Format::Two)
     }
 
     fn has_room(&self) -> bool {
@@ -42,6 +51,18 @@ impl Policy<'_> {
         let refused = self.breach.is_some() || !self.has_room();
         let made = || if refused { None } else { Some(completion(&self.table, &self.case.marks)) };
         self.completion.get_or_init(made).as_ref()
+    }
+
+    /// The breach with which completing is refused.
+    pub fn completing(&self) -> Option<Breach> {
+        let PolicyCase { words, marks, out, .. } = self.case;
+        refused_breach(complete(words, marks, &mut out.clone()))
+    }
+
+    /// The breach with which the proposed mend is refused.
+    pub fn proposing(&self) -> Option<Breach> {
+        let PolicyCase { words, marks, proposed, .. } = self.case;
+        refused_breach(judge_mend(words, marks, proposed))
     }
 
     pub fn mark(&self, privilege: usize) -> u8 {

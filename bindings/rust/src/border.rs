@@ -1,7 +1,7 @@
 //! The exported functions of crate store, on slices, with their answers as they cross the border. The benchmark and second/soak.rs take this
 //! file as it is.
 
-/// An answer as eight numbers, in the order of crates/store.
+/// An answer as nine numbers, in the order of crates/store.
 #[repr(C)]
 #[derive(Clone, Copy, Debug, Default, PartialEq)]
 pub struct Outcome {
@@ -13,6 +13,7 @@ pub struct Outcome {
     pub i: usize,
     pub j: usize,
     pub privilege: usize,
+    pub forbidden: usize,
 }
 
 // SAFETY of each call: a pointer, which in a slice is never NULL, and its length, from one slice that lives through the call; the borrows keep

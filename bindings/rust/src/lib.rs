@@ -13,12 +13,12 @@
 //! // a star whose child is a text; its privileges are insert, delete, and change the text
 //! let words = [1, 15, 2, 0, 8, 1, 14, 3, 4, 1, 0, 1, 0, 1, 1];
 //! let breach = judge_policy(&words, &[ALLOWED, ALLOWED, FORBIDDEN])?.expect("delete and insert change the text");
-//! assert_eq!((breach.element, breach.privilege), (0, 2));
+//! assert_eq!((breach.element, breach.privilege, breach.forbidden), (0, 2, 1));
 //!
 //! // the same in format 2; the privileges are insert, delete, replace a child by another of its kind, and change the text
 //! let words = [2, 15, 2, 0, 8, 1, 14, 4, 4, 1, 0, 1, 0, 1, 1];
 //! let breach = judge_policy(&words, &[FORBIDDEN, FORBIDDEN, ALLOWED, FORBIDDEN])?.expect("replace changes the text");
-//! assert_eq!((breach.element, breach.privilege), (0, 3));
+//! assert_eq!((breach.element, breach.privilege, breach.forbidden), (0, 3, 1));
 //! # Ok::<(), finnedscarf::Refusal>(())
 //! ```
 //!
@@ -67,11 +67,14 @@ pub struct Breach {
     /// The forbidden replacement for condition 2, the star's replace for condition 1 if that is forbidden, else the lowest-numbered forbidden
     /// privilege below the child.
     pub privilege: usize,
+    /// How many are forbidden there: 1 for condition 2, and for condition 1 if the star's replace is forbidden, else all forbidden privileges
+    /// below the child, each counted once even if two paths lead to it.
+    pub forbidden: usize,
 }
 
 impl fmt::Display for Breach {
     fn fmt(&self, f: &mut fmt::Formatter) -> fmt::Result {
-        let Breach { condition, element, i, j, privilege } = self;
+        let Breach { condition, element, i, j, privilege, forbidden } = self;
         match condition {
             Condition::InsertDelete => write!(
                 f,
@@ -88,6 +91,10 @@ impl fmt::Display for Breach {
                 "condition 3 at type {element}: allowed replacements lead from position {i} back to it, and privilege {privilege} below \
                  the child there is forbidden"
             ),
+        }?;
+        match forbidden {
+            1 => Ok(()),
+            all => write!(f, ", the lowest of {all}"),
         }
     }
 }
@@ -203,7 +210,8 @@ impl Outcome {
             3 => Condition::Cycle,
             other => unreachable!("condition {other}"),
         };
-        Some(Breach { condition, element: self.element, i: self.i, j: self.j, privilege: self.privilege })
+        let Outcome { element, i, j, privilege, forbidden, .. } = *self;
+        Some(Breach { condition, element, i, j, privilege, forbidden })
     }
 
     fn done(self) -> Result<Outcome, Refusal> {

@@ -35,6 +35,7 @@ fn put_answer(case: usize, call: &[u8], answer: Answer) {
     put(breach.i);
     put(breach.j);
     put(breach.privilege);
+    put(breach.forbidden);
 }
 
 fn put_byte(byte: u8) {

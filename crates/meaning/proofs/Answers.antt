@@ -1,4 +1,4 @@
--- What the calls answer, by what a policy means. In format 1 a verdict of five zeros is that the policy is consistent; a breach gives an imitation, of
+-- What the calls answer, by what a policy means. In format 1 a verdict without a breach is that the policy is consistent; a breach gives an imitation, of
 -- its own privilege, by edits at its own type; a completion allows the kinds of edit that the set marks let people imitate, and is refused exactly
 -- if they let people imitate one that they forbid. In format 2 edits that replace an element by one of its own kind are an exception: a breach may
 -- name one that changes nothing, and a completion may leave one out that can be imitated. Assumes nothing.
@@ -23,9 +23,10 @@ use Rattle.policy.proofs.Policies.{policy-not}
 use Rattle.verdict.specs.Below.{ForbiddenBelow}
 use Rattle.verdict.specs.Forces.{Forces, renewal, chain, cycle}
 use Rattle.verdict.specs.Forces as forces
-use Rattle.verdict.specs.Breaches.{noBreach, Spot, spotOf, StarBroken, at-exchange, at-below, BreachOf, IsBreach, FirstBreach, clean, broken}
+use Rattle.verdict.specs.Breaches.{noBreach, spotOf, StarBroken, at-exchange, at-below, BreachOf, IsBreach, FirstBreach, clean, broken}
 use Rattle.verdict.specs.Answers.{verdictOf, JudgeAnswer, judged}
 use Rattle.verdict.specs.Answers as answers
+use Rattle.verdict.specs.declared.Spot.{Spot}
 use Rattle.verdict.specs.declared.Answer.{Answer}
 use Rattle.verdict.specs.declared.Breach.{Breach}
 use Rattle.verdict.specs.declared.Condition.{Condition}
@@ -135,7 +136,7 @@ judged-meaning {ws} {marks} {a} n = (there, back)
     back (consistent p c e) = judged p (clean (theorem-1 (p .accepted) (not-two n (p .accepted)) .1 c) refl) e
     back (imitated p f i e) = judged p (broken f) e
 
--- so of a policy five zeros are answered exactly if it is consistent
+-- so of a policy no breach is answered exactly if it is consistent
 pub judged-consistent : {ws marks : List ℕ} {a : Answer} → formatOf ws ≡ 1 → Policy ws marks → JudgeAnswer ws marks a → (a ≡ verdictOf noBreach) ↔ Consistent ws marks
 judged-consistent {ws} {marks} {a} one p j = (there j, back j)
   where

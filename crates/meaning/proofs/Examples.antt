@@ -104,7 +104,7 @@ empties-accepted = accepted-out refl
 
 -- condition 1 at type 0, with the privilege to exchange
 abbrev barred : Breach
-barred = record { condition = InsertDelete; element = 0; i = 0; j = 0; privilege = 2 }
+barred = record { condition = InsertDelete; element = 0; i = 0; j = 0; privilege = 2; forbidden = 1 }
 
 pub empties-broken : FirstBreach empties renewing barred
 unfolding sumBelow ruleOf ruleAt childrenAt countOf gapOf privilegesAt firstPrivilege privileges replaceOf

@@ -25,7 +25,7 @@ pub record BreachImitation (ws : List ℕ) (R : Forest → Forest → Type 0) (m
 
 pub data MeaningAnswer (ws marks : List ℕ) (a : Answer) : Type 0 where
   refused : {number place : ℕ} → NoPolicy ws marks number place → a ≡ refusal number place → MeaningAnswer ws marks a
-  -- five zeros: allowed edits imitate no forbidden one
+  -- no breach: allowed edits imitate no forbidden one
   consistent : Policy ws marks → Consistent ws marks → a ≡ verdictOf noBreach → MeaningAnswer ws marks a
   -- the first breach: they imitate the forbidden one that it names
   imitated : {b : Breach} → Policy ws marks → FirstBreach ws marks b → BreachImitation ws Same marks b → a ≡ verdictOf b → MeaningAnswer ws marks a

@@ -1,6 +1,6 @@
 -- Mending has one answer, and what it gives is accepted as a proposed mend with the same count. Assumes nothing.
 use Prim.Native.Nat.{ℕ, _≤_}
-use mathlib.Core.Path.{_≡_, sym, ap, _∙_}
+use mathlib.Core.Path.{_≡_, refl, sym, ap, _∙_}
 use mathlib.Core.Logic.{inl, inr}
 use mathlib.Core.List.{List, _++_}
 use native.Mathlib.Omega.{arith}
@@ -41,4 +41,4 @@ pub mends-accepted : {ws marks n : List ℕ} {count : ℕ} {a : Answer} → Poli
 mends-accepted {ws} {marks} {n} {count} pol r h =
     let l = mends-lowered r in
     let f : Fit (privileges ws) n = record { size = l .size ∙ pol .fit .size; legal = λ p k. kept-legal marks n p (l .each p) (pol .fit .legal p k) } in
-    propose-one h (accepted pol f (λ p k. l .each p) (mends-clean r) (ap answers.done (mends-count r)))
+    propose-one h (accepted pol f (λ p k. l .each p) (mends-clean r) (mends-count r) refl)

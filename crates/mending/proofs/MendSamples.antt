@@ -35,7 +35,7 @@ rows =
     -- newly forbidden replacement is the next breach, at which 0 by 2 is taken
     ∷ mended four 112_001_010_000 222_001_010_000 2
     -- S9 of document 01 with the first breach mended only: the second is left
-    ∷ proposed sample 11021201000 12021201000 (breached (record { condition = Chain; element = 4; i = 0; j = 2; privilege = 5 }))
+    ∷ proposed sample 11021201000 12021201000 (breached (record { condition = Chain; element = 4; i = 0; j = 2; privilege = 5; forbidden = 1 }))
     ∷ []
 
 abbrev pub Right : Row → Type 0

@@ -20,14 +20,13 @@ use Rattle.policy.specs.Reached.{Reached}
 use Rattle.policy.specs.Renewed.{Both}
 use Rattle.verdict.specs.Conditions.{Clean}
 use Rattle.verdict.specs.Below.{ForbiddenBelow}
-use Rattle.verdict.specs.Breaches.{Spot, spotOf, BreachOf, IsBreach, FirstSpot, FirstBreach, Verdict, clean, broken}
-use Rattle.verdict.specs.Answers as answers
+use Rattle.verdict.specs.Breaches.{spotOf, BreachOf, IsBreach, FirstSpot, FirstBreach, Verdict, clean, broken}
+use Rattle.verdict.specs.declared.Spot.{Spot}
 use Rattle.verdict.specs.declared.Breach.{Breach}
 use Rattle.verdict.specs.declared.Condition.{Condition}
 use Rattle.verdict.specs.declared.Condition.the-variants.{None, InsertDelete, Chain, Cycle}
 use Rattle.verdict.proofs.PolicyTests.{step, reached, bothAllowed, verdictBy, verdict-by}
 use Rattle.mending.specs.Mends.{Leads, LowestLead, StarTakes, delete, exchange, TakesFor, Takes, Mends, done, more}
-use Rattle.mending.specs.Answers as outcomes
 use Rattle.mending.proofs.Counting.{allowedIn, allowed-less}
 use Rattle.policy.proofs.Policies.{marked-within}
 use Rattle.mending.proofs.Mended.{takes-allowed, takes-below}

@@ -7,6 +7,8 @@ use native.Mathlib.Nat.{zero-add, add-zero, add-assoc}
 use native.Mathlib.Decide.{ℕ-discrete}
 use native.Mathlib.Omega.{arith}
 use lib.ListN.{length, set, length-set}
+use Rattle.table.specs.HowMany.{HowMany}
+use Rattle.table.proofs.HowMany.{many-one}
 use Rattle.table.specs.Privilege.{privileges, Belongs, replaceOf, delete, exchange, replace}
 use Rattle.table.specs.Rule.{IsStar}
 use Rattle.table.proofs.Lists.{le-or-lt}
@@ -15,16 +17,17 @@ use Rattle.policy.specs.Marks.{Allowed, Forbidden}
 use Rattle.policy.specs.Renewed.{by-both, by-exchange}
 use Rattle.verdict.specs.Conditions.{Clean}
 use Rattle.verdict.specs.Below.{ForbiddenBelow}
-use Rattle.verdict.specs.Breaches.{Spot, StarBroken, at-exchange, at-below, IsBreach, BreachOf, FirstSpot}
+use Rattle.verdict.specs.Breaches.{StarBroken, at-exchange, at-below, IsBreach, BreachOf, FirstSpot}
+use Rattle.verdict.specs.declared.Spot.{Spot}
 use Rattle.verdict.specs.declared.Condition.{Condition}
 use Rattle.verdict.specs.declared.Condition.the-variants.{None, InsertDelete, Chain, Cycle}
 use Rattle.policy.proofs.Policies.{marked-within}
 use Rattle.verdict.proofs.Firsts.{spot-one, clean-none}
 use Rattle.mending.specs.Mends.{LowestLead, StarTakes, TakesFor, Takes, Mends, done, more}
 use Rattle.mending.specs.Mends as mends
-use Rattle.proposing.specs.Proposals.{Kept, changes}
+use Rattle.proposing.specs.Proposals.{Kept, Changed}
 use Rattle.mending.specs.steps.Taking.{Follows, start, take}
-use Rattle.mending.proofs.Counting.{allowedIn, taken-here, taken-other, allowed-less, changes-more, changes-none}
+use Rattle.mending.proofs.Counting.{allowedIn, allowed-many, taken-here, taken-other, allowed-less, changed-more, changed-none}
 
 module _ (ws m : List ℕ) where
   lowest-lead-one : {x i j p q : ℕ} → LowestLead ws m x i j p → LowestLead ws m x i j q → p ≡ q
@@ -116,21 +119,25 @@ mends-lowered (done q) = record { size = refl; each = λ p. inl refl }
 mends-lowered {ws} {m} {n} (more s p f g r) = lower-step m n p (takes-allowed ws m s p f g) (mends-lowered r)
 
 -- its count is the number of marks changed
-pub mends-count : {ws m n : List ℕ} {c : ℕ} → Mends ws m n c → c ≡ changes m n (privileges ws)
-mends-count {ws} {m} (done q) = sym (changes-none m (privileges ws))
-mends-count {ws} {m} {n} (more s p f g r) =
+pub mends-count : {ws m n : List ℕ} {c : ℕ} → Mends ws m n c → HowMany (Changed m n) (privileges ws) c
+mends-count {ws} {m} (done q) = changed-none m (privileges ws)
+mends-count {ws} {m} {n} (more {c = c} s p f g r) =
     let a : Allowed m p = takes-allowed ws m s p f g in
     let low = marked-within m p (omega arith) in
     let l = mends-lowered r in
     let e : Forbidden n p = elim (l .each p) [ inl h ↦ h ∙ taken-here m p low | inr h ↦ h .1 ] in
-    omega (arith, mends-count r, changes-more m p low n a e (privileges ws) (takes-below ws m s p f g))
+    changed-more m p low n a e (privileges ws) c (takes-below ws m s p f g) (mends-count r)
 
--- and never more than were allowed at the start
-pub mends-bound : {ws m n : List ℕ} {c : ℕ} → Mends ws m n c → c + allowedIn n (privileges ws) ≡ allowedIn m (privileges ws)
-mends-bound (done q) = omega arith
-mends-bound {ws} {m} (more s p f g r) =
+-- and as many less are allowed
+fewer-allowed : {ws m n : List ℕ} {c : ℕ} → Mends ws m n c → c + allowedIn n (privileges ws) ≡ allowedIn m (privileges ws)
+fewer-allowed (done q) = omega arith
+fewer-allowed {ws} {m} (more s p f g r) =
     let a : Allowed m p = takes-allowed ws m s p f g in
-    omega (arith, mends-bound r, allowed-less m p (marked-within m p (omega arith)) a (privileges ws) (takes-below ws m s p f g))
+    omega (arith, fewer-allowed r, allowed-less m p (marked-within m p (omega arith)) a (privileges ws) (takes-below ws m s p f g))
+
+pub mends-bound : {ws m n : List ℕ} {c before after : ℕ} → Mends ws m n c → HowMany (Allowed m) (privileges ws) before → HowMany (Allowed n) (privileges ws) after
+    → c + after ≡ before
+mends-bound {ws} {m} {n} r b a = omega (arith, fewer-allowed r, many-one b (allowed-many m (privileges ws)), many-one a (allowed-many n (privileges ws)))
 
 add-suc-one : (c d : ℕ) → c + 1 + d ≡ c + suc d
 add-suc-one c d = omega arith

@@ -17,15 +17,15 @@ use Rattle.policy.specs.steps.Squares.{marked, Square}
 use Rattle.policy.proofs.Reaches.{reached-from, reached-to}
 use Rattle.policy.proofs.SquareLaws.{step-out, step-into, told-marked}
 use Rattle.verdict.specs.Below.{ForbiddenBelow}
-use Rattle.verdict.specs.Breaches.{conditionNumber, spotOf, IsBreach, FirstSpot}
-use Rattle.verdict.specs.steps.Lows.{Kept}
-use Rattle.verdict.specs.steps.Visits.{Searched, none, first, BreachAt}
-use Rattle.verdict.specs.declared.Breach.{Breach}
+use Rattle.verdict.specs.Breaches.{conditionNumber, IsBreach, FirstSpot}
+use Rattle.verdict.specs.steps.Spoils.{Flagged}
+use Rattle.verdict.specs.steps.Visits.{Searched, BreachAt}
+use Rattle.verdict.specs.declared.Spot.{Spot}
 use Rattle.verdict.specs.declared.Condition.{Condition}
 use Rattle.verdict.specs.declared.Condition.the-variants.{None, Cycle}
 use Rattle.verdict.proofs.Firsts.{CleanBefore, clean-more, at-none, at-first, searched-first}
 use Rattle.verdict.proofs.Breached.{plain-none, star-only, choice-only}
-use Rattle.verdict.proofs.Kept.{breach-as, spot-as}
+use Rattle.verdict.proofs.Flagged.{breach-as, spot-as}
 use Rattle.mending.specs.Mends.{Leads, LowestLead, StarTakes, TakesFor}
 use Rattle.mending.specs.steps.Taking.{CleanUpTo, Visited, LeadsIn, LowestIn, TakenAt}
 
@@ -62,61 +62,61 @@ module _ {ws m : List ℕ} {x : ℕ} {n : Numbering} {square : List ℕ} (number
     is = replace-in numbered i k;
   }
 
--- what a search by the kept numbers has found at type x
-module _ {ws m low : List ℕ} {x : ℕ} {kids : List ℕ} {n : Numbering} (v : Visited ws m low x kids n) {b : Breach}
-    (found : Searched (BreachAt ws m (Kept low) x) b) where
-  pub next-none : b .condition ≡ None → CleanUpTo ws m (x + 1)
+-- what a search by the flags has found at type x
+module _ {ws m flags : List ℕ} {x : ℕ} {kids : List ℕ} {n : Numbering} (v : Visited ws m flags x kids n) {s : Spot}
+    (found : Searched (BreachAt ws m (Flagged flags) x) s) where
+  pub next-none : s .condition ≡ None → CleanUpTo ws m (x + 1)
   next-none k = clean-more ws m (ForbiddenBelow ws m) (v .clean)
-      (λ s p h e. let r = breach-as m (v .policy .accepted) (v .spoilt .back) s p h in at-none ws m (Kept low) found k s (r .0) (r .1) e)
+      (λ t p h e. let r = breach-as m (v .policy .accepted) (v .spoilt .back) t p h in at-none ws m (Flagged flags) found k t (r .0) (r .1) e)
 
-  module _ (d : b .condition ≢ None) where
-    here : BreachAt ws m (Kept low) x (spotOf b) (b .privilege)
-    here = go found
-      where
-        go : Searched (BreachAt ws m (Kept low) x) b → BreachAt ws m (Kept low) x (spotOf b) (b .privilege)
-        go (none e f) = absurd (d (ap (λ (a : Breach). a .condition) e))
-        go (first h f) = h
+  module _ (d : s .condition ≢ None) where
+    by : ℕ
+    by = searched-first found d .broken .0
+
+    here : BreachAt ws m (Flagged flags) x s by
+    unfolding by
+    here = searched-first found d .broken .1
 
     -- no type before has a breach by them either, so it is the first spot
-    spot : FirstSpot (IsBreach ws m) (spotOf b)
-    spot = spot-as m (v .policy .accepted) (v .spoilt) (searched-first (at-first ws m (Kept low) before found d) d)
+    spot : FirstSpot (IsBreach ws m) s
+    spot = spot-as m (v .policy .accepted) (v .spoilt) (searched-first (at-first ws m (Flagged flags) before found d) d)
       where
-        before : CleanBefore ws m (Kept low) x
-        before s p h = let r = breach-as m (v .policy .accepted) (v .spoilt .onto) s p h in v .clean s (r .0) (r .1)
+        before : CleanBefore ws m (Flagged flags) x
+        before t p h = let r = breach-as m (v .policy .accepted) (v .spoilt .onto) t p h in v .clean t (r .0) (r .1)
 
     pub star-next : {p : ℕ} → IsStar ws x → StarTakes ws m x p → TakenAt ws m x p
     star-next {p} star t =
-        let takes : StarTakes ws m (b .element) p = rw (here .here) t in
+        let takes : StarTakes ws m (s .element) p = rw (here .here) t in
         record {
-          spot = spotOf b;
+          spot = s;
           first = spot;
           here = here .here;
-          takes = subst (λ (c : Condition). TakesFor ws m c (spotOf b) p) (sym (star-only ws m (Kept low) x star (spotOf b) (b .privilege) here .0)) takes;
+          takes = subst (λ (c : Condition). TakesFor ws m c s p) (sym (star-only ws m (Flagged flags) x star s by here .0)) takes;
         }
 
-    pub choice-reached : IsChoice ws x → Reached ws (Allowed m) x (b .i) (b .j)
-    choice-reached choice = elim (choice-only ws m (Kept low) x choice (spotOf b) (b .privilege) here) [
+    pub choice-reached : IsChoice ws x → Reached ws (Allowed m) x (s .i) (s .j)
+    choice-reached choice = elim (choice-only ws m (Flagged flags) x choice s by here) [
       | inl h ↦ rw (here .here) at (h .1 .reached)
       | inr h ↦ rw (h .1 .same) (rw (here .here) at (h .1 .reached))
     ]
 
     -- at a cycle j is i
-    pub cycle-same : IsChoice ws x → b .condition ≡ Cycle → b .j ≡ b .i
-    cycle-same choice k = elim (choice-only ws m (Kept low) x choice (spotOf b) (b .privilege) here) [
+    pub cycle-same : IsChoice ws x → s .condition ≡ Cycle → s .j ≡ s .i
+    cycle-same choice k = elim (choice-only ws m (Flagged flags) x choice s by here) [
       | inl h ↦ let z : _≡_ {A = ℕ} 2 3 = ap conditionNumber (sym (h .0) ∙ k) in absurd (omega arith)
       | inr h ↦ h .1 .same
     ]
 
-    pub choice-next : {p : ℕ} → IsChoice ws x → LowestLead ws m x (b .i) (b .j) p → TakenAt ws m x p
-    choice-next {p} choice l = record { spot = spotOf b; first = spot; here = here .here; takes = takes }
+    pub choice-next : {p : ℕ} → IsChoice ws x → LowestLead ws m x (s .i) (s .j) p → TakenAt ws m x p
+    choice-next {p} choice l = record { spot = s; first = spot; here = here .here; takes = takes }
       where
-        lead : LowestLead ws m (b .element) (b .i) (b .j) p
+        lead : LowestLead ws m (s .element) (s .i) (s .j) p
         lead = rw (here .here) l
 
-        takes : TakesFor ws m (b .condition) (spotOf b) p
-        takes = elim (choice-only ws m (Kept low) x choice (spotOf b) (b .privilege) here) [
-          | inl h ↦ subst (λ (c : Condition). TakesFor ws m c (spotOf b) p) (sym (h .0)) lead
-          | inr h ↦ subst (λ (c : Condition). TakesFor ws m c (spotOf b) p) (sym (h .0)) lead
+        takes : TakesFor ws m (s .condition) s p
+        takes = elim (choice-only ws m (Flagged flags) x choice s by here) [
+          | inl h ↦ subst (λ (c : Condition). TakesFor ws m c s p) (sym (h .0)) lead
+          | inr h ↦ subst (λ (c : Condition). TakesFor ws m c s p) (sym (h .0)) lead
         ]
 
 -- a type that is neither a star nor a choice is passed

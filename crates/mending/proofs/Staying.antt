@@ -22,7 +22,8 @@ use Rattle.policy.proofs.Policies.{marked-within}
 use Rattle.policy.proofs.Reaches.{reached-from, reached-mono}
 use Rattle.policy.proofs.Renewals.{both-mono, renewed-mono}
 use Rattle.verdict.specs.Below.{ForbiddenBelow}
-use Rattle.verdict.specs.Breaches.{Spot, StarBroken, at-exchange, at-below, BreachOf, IsBreach}
+use Rattle.verdict.specs.Breaches.{StarBroken, at-exchange, at-below, BreachOf, IsBreach}
+use Rattle.verdict.specs.declared.Spot.{Spot}
 use Rattle.verdict.specs.declared.Condition.{Condition}
 use Rattle.verdict.specs.declared.Condition.the-variants.{None, InsertDelete, Chain, Cycle}
 use Rattle.verdict.proofs.Firsts.{clean-all, none-clean}
@@ -90,8 +91,8 @@ module _ {ws m : List ℕ} {x p q₀ : ℕ} (own : Belongs ws p x) (a : Allowed 
       let d : q ≢ p = λ e. let g : Forbidden m p = rw e at (f .forbidden) in omega arith in
       (q, record { below = f .below; forbidden = taken-other m p low q d ∙ f .forbidden })
 
-  pub spoilt-stays : (low : List ℕ) → Spoilt ws m low → Spoilt ws (set m p 2) low
-  spoilt-stays low s = record {
+  pub spoilt-stays : (flags : List ℕ) → Spoilt ws m flags → Spoilt ws (set m p 2) flags
+  spoilt-stays flags s = record {
     onto = λ y k l h. spoilt-after y (s .onto y k l h);
     back = λ y q l f. let r = spoilt-before y (q, f) in s .back y (r .0) l (r .1);
   }
@@ -147,14 +148,14 @@ policy-stays {ws} {m} p pol a = record {
     go q l (no d) = rw (taken-other m p low q d) (pol .fit .legal q l)
 
 -- the mend of type x, on its way: the rule was followed, and no type before x has a breach
-pub record Mending (ws low : List ℕ) (x : ℕ) (old new : List ℕ) (c : ℕ) : Type 0 where
+pub record Mending (ws flags : List ℕ) (x : ℕ) (old new : List ℕ) (c : ℕ) : Type 0 where
   pub follows : Follows ws old new c
   pub policy : Policy ws new
-  pub spoilt : Spoilt ws new low
+  pub spoilt : Spoilt ws new flags
   pub clean : CleanUpTo ws new x
 
 -- what the rule takes next is taken
-module _ {ws low : List ℕ} {x : ℕ} {old new : List ℕ} {c p : ℕ} (h : Mending ws low x old new c) (t : TakenAt ws new x p) where
+module _ {ws flags : List ℕ} {x : ℕ} {old new : List ℕ} {c p : ℕ} (h : Mending ws flags x old new c) (t : TakenAt ws new x p) where
   pub next-allowed : Allowed new p
   next-allowed = takes-allowed ws new (t .spot) p (t .first) (t .takes)
 
@@ -164,14 +165,14 @@ module _ {ws low : List ℕ} {x : ℕ} {old new : List ℕ} {c p : ℕ} (h : Men
   pub next-within : p < length new
   next-within = marked-within new p (λ e. omega (arith, next-allowed))
 
-  pub mending-take : Mending ws low x old (set new p 2) (c + 1)
+  pub mending-take : Mending ws flags x old (set new p 2) (c + 1)
   mending-take =
       let s = breach-spoils (h .policy .accepted) (t .spot) (t .first .broken .0) (t .first .broken .1) in
       let f : ForbiddenBelow ws new x (s .0) = subst (λ (y : ℕ). ForbiddenBelow ws new y (s .0)) (t .here) (s .1) in
       record {
         follows = take (t .spot) p (h .follows) (t .first) (t .takes);
         policy = policy-stays p (h .policy) next-allowed;
-        spoilt = spoilt-stays next-own next-allowed f low (h .spoilt);
+        spoilt = spoilt-stays next-own next-allowed f flags (h .spoilt);
         clean = clean-stays next-own next-allowed f (h .clean);
       }
 
@@ -180,13 +181,13 @@ module _ {ws low : List ℕ} {x : ℕ} {old new : List ℕ} {c p : ℕ} (h : Men
   next-less = omega (arith, allowed-less new p next-within next-allowed (privileges ws) (belongs-below next-own))
 
 -- the count is small
-pub mending-few : {ws low : List ℕ} {x : ℕ} {old new : List ℕ} {c : ℕ} → Mending ws low x old new c → c ≤ 4096
+pub mending-few : {ws flags : List ℕ} {x : ℕ} {old new : List ℕ} {c : ℕ} → Mending ws flags x old new c → c ≤ 4096
 mending-few {ws} {old = old} h = omega (arith, follows-bound (h .follows), allowed-most old (privileges ws), facts (h .policy .accepted) .privileges-few)
 
 -- a type that is done, and the next
-pub mending-on : {ws low : List ℕ} {x : ℕ} {old mid new : List ℕ} {c d : ℕ} → Mending ws low x old mid c → Cleaned ws low x mid new d → Mending ws low (x + 1) old new (c + d)
+pub mending-on : {ws flags : List ℕ} {x : ℕ} {old mid new : List ℕ} {c d : ℕ} → Mending ws flags x old mid c → Cleaned ws flags x mid new d → Mending ws flags (x + 1) old new (c + d)
 mending-on h k = record { follows = follows-trans (h .follows) (k .follows); policy = k .policy; spoilt = k .spoilt; clean = k .clean }
 
 -- where all types are done the policy is mended
-pub mending-done : {ws low old new : List ℕ} {c : ℕ} → Mending ws low (types ws) old new c → Mends ws old new c
+pub mending-done : {ws flags old new : List ℕ} {c : ℕ} → Mending ws flags (types ws) old new c → Mends ws old new c
 mending-done {ws} {new = new} h = follows-done (h .follows) (none-clean ws new (clean-all ws new (ForbiddenBelow ws new) (h .clean)))

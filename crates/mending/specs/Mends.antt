@@ -11,7 +11,8 @@ use Rattle.policy.specs.Marks.{Allowed}
 use Rattle.policy.specs.Reached.{Step, Reached}
 use Rattle.policy.specs.Renewed.{Both}
 use Rattle.verdict.specs.Conditions.{Clean}
-use Rattle.verdict.specs.Breaches.{Spot, IsBreach, FirstSpot}
+use Rattle.verdict.specs.Breaches.{IsBreach, FirstSpot}
+use Rattle.verdict.specs.declared.Spot.{Spot}
 use Rattle.verdict.specs.declared.Condition.{Condition}
 use Rattle.verdict.specs.declared.Condition.the-variants.{None, InsertDelete, Chain, Cycle}
 

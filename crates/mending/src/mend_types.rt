@@ -25,24 +25,24 @@ use table::rule::Rule;
 use table::rule::children;
 use table::rule::rule_at;
 use table::words::types;
-use verdict::below::forbidden_lows;
 use verdict::breaches::Pair;
+use verdict::spoilt::flag_spoilt;
 
 // Mends the star x, whose child can be renewed: what the rule takes is forbidden, and once more if it still has a breach.
 fn mend_renewed(
     words: &[u16],
     m: &mut [u8],
-    low: &[u16; 256],
+    flags: &[u8; 256],
     x: usize,
     kids: &[u16],
     n: Numbering,
 ) -> usize
-    requires { ⌜ Visited (now words) (now m) (now low) x (now kids) n × IsStar (now words) x ⌝ }
-    ensures { λ r. ⌜ Cleaned (now (words .entry)) (now (low .entry)) x (now (m .entry)) (now (m .exit)) r ⌝ }
+    requires { ⌜ Visited (now words) (now m) (now flags) x (now kids) n × IsStar (now words) x ⌝ }
+    ensures { λ r. ⌜ Cleaned (now (words .entry)) (now (flags .entry)) x (now (m .entry)) (now (m .exit)) r ⌝ }
 {
     let mut count = 0;
     loop {
-        let taken = star_taken(words, m, low, x, kids, n);
+        let taken = star_taken(words, m, flags, x, kids, n);
         let Found::At(p) = taken else {
             return count;
         };
@@ -55,16 +55,16 @@ fn mend_renewed(
 fn mend_star(
     words: &[u16],
     m: &mut [u8],
-    low: &[u16; 256],
+    flags: &[u8; 256],
     x: usize,
     kids: &[u16],
     n: Numbering,
 ) -> usize
-    requires { ⌜ Visited (now words) (now m) (now low) x (now kids) n × IsStar (now words) x ⌝ }
-    ensures { λ r. ⌜ Cleaned (now (words .entry)) (now (low .entry)) x (now (m .entry)) (now (m .exit)) r ⌝ }
+    requires { ⌜ Visited (now words) (now m) (now flags) x (now kids) n × IsStar (now words) x ⌝ }
+    ensures { λ r. ⌜ Cleaned (now (words .entry)) (now (flags .entry)) x (now (m .entry)) (now (m .exit)) r ⌝ }
 {
     if is_renewed(m, n) {
-        return mend_renewed(words, m, low, x, kids, n);
+        return mend_renewed(words, m, flags, x, kids, n);
     }
     0
 }
@@ -73,13 +73,13 @@ fn mend_star(
 fn mend_choice(
     words: &[u16],
     m: &mut [u8],
-    low: &[u16; 256],
+    flags: &[u8; 256],
     x: usize,
     kids: &[u16],
     n: Numbering,
 ) -> usize
-    requires { ⌜ Visited (now words) (now m) (now low) x (now kids) n × IsChoice (now words) x ⌝ }
-    ensures { λ r. ⌜ Cleaned (now (words .entry)) (now (low .entry)) x (now (m .entry)) (now (m .exit)) r ⌝ }
+    requires { ⌜ Visited (now words) (now m) (now flags) x (now kids) n × IsChoice (now words) x ⌝ }
+    ensures { λ r. ⌜ Cleaned (now (words .entry)) (now (flags .entry)) x (now (m .entry)) (now (m .exit)) r ⌝ }
 {
     let mut allowed = [0u16; 16];
     let mut forbidden = [0u16; 16];
@@ -87,7 +87,7 @@ fn mend_choice(
     let mut count = 0;
     loop {
         let square = reached_by(words, m, x, n, allowed);
-        let taken = next_taken(words, m, low, x, kids, n, &square, &allowed, &forbidden);
+        let taken = next_taken(words, m, flags, x, kids, n, &square, &allowed, &forbidden);
         let Pair::At(i, k) = taken else {
             return count;
         };
@@ -99,9 +99,9 @@ fn mend_choice(
 }
 
 // Mends type x, whose first privilege is given.
-fn mend_type(words: &[u16], m: &mut [u8], low: &[u16; 256], x: usize, first: usize) -> usize
-    requires { ⌜ Policy (now words) (now m) × Spoilt (now words) (now m) (now low) × (x < types (now words)) × CleanUpTo (now words) (now m) x × (first ≡ firstPrivilege (now words) x) ⌝ }
-    ensures { λ r. ⌜ Cleaned (now (words .entry)) (now (low .entry)) x (now (m .entry)) (now (m .exit)) r ⌝ }
+fn mend_type(words: &[u16], m: &mut [u8], flags: &[u8; 256], x: usize, first: usize) -> usize
+    requires { ⌜ Policy (now words) (now m) × Spoilt (now words) (now m) (now flags) × (x < types (now words)) × CleanUpTo (now words) (now m) x × (first ≡ firstPrivilege (now words) x) ⌝ }
+    ensures { λ r. ⌜ Cleaned (now (words .entry)) (now (flags .entry)) x (now (m .entry)) (now (m .exit)) r ⌝ }
 {
     let rule = rule_at(words, x);
     match rule {
@@ -111,7 +111,7 @@ fn mend_type(words: &[u16], m: &mut [u8], low: &[u16; 256], x: usize, first: usi
         Rule::Choice { first: _, count: _ } => mend_choice(
             words,
             m,
-            low,
+            flags,
             x,
             children(words, x),
             numbers_at(words, x, first),
@@ -119,7 +119,7 @@ fn mend_type(words: &[u16], m: &mut [u8], low: &[u16; 256], x: usize, first: usi
         Rule::Star { first: _, count: _ } => mend_star(
             words,
             m,
-            low,
+            flags,
             x,
             children(words, x),
             numbers_at(words, x, first),
@@ -132,8 +132,8 @@ fn mend_all(words: &[u16], order: &[u8; 256], m: &mut [u8]) -> usize
     requires { ⌜ Policy (now words) (now m) × BottomUp (now words) (now order) ⌝ }
     ensures { λ r. ⌜ Mends (now (words .entry)) (now (m .entry)) (now (m .exit)) r ⌝ }
 {
-    let mut low = [0u16; 256];
-    forbidden_lows(words, m, order, &mut low);
+    let mut flags = [0u8; 256];
+    flag_spoilt(words, m, order, &mut flags);
     let gap = gap_of(words);
     let e = types(words);
     let mut count = 0;
@@ -141,7 +141,7 @@ fn mend_all(words: &[u16], order: &[u8; 256], m: &mut [u8]) -> usize
     let mut x = 0;
     while x < e {
         let own = privileges_in(words, x, gap);
-        count += mend_type(words, m, &low, x, first);
+        count += mend_type(words, m, &flags, x, first);
         first += own;
         x += 1;
     }

@@ -65,7 +65,7 @@ fn lowest_lead(
 pub fn next_taken(
     words: &[u16],
     m: &[u8],
-    low: &[u16; 256],
+    flags: &[u8; 256],
     x: usize,
     kids: &[u16],
     n: Numbering,
@@ -73,36 +73,36 @@ pub fn next_taken(
     allowed: &[u16; 16],
     forbidden: &[u16; 16],
 ) -> Pair
-    requires { ⌜ Visited (now words) (now m) (now low) x (now kids) n × IsChoice (now words) x × Square (countOf (now words) x) (Reached (now words) (Allowed (now m)) x) (now square) × Read (now m) n (now allowed) (now forbidden) ⌝ }
+    requires { ⌜ Visited (now words) (now m) (now flags) x (now kids) n × IsChoice (now words) x × Square (countOf (now words) x) (Reached (now words) (Allowed (now m)) x) (now square) × Read (now m) n (now allowed) (now forbidden) ⌝ }
     ensures { λ r. ⌜ NextTaken (now (words .entry)) (now (m .entry)) x n r ⌝ }
 {
-    let breach = breach_in(words, m, low, x, kids, n, square, forbidden);
-    let condition = breach.condition;
+    let spot = breach_in(words, m, flags, x, kids, n, square, forbidden);
+    let condition = spot.condition;
     if let Condition::None = condition {
         return Pair::Nothing;
     }
-    let i = breach.i;
+    let i = spot.i;
     // At a cycle j is i. Told apart, each gets a loop of its own from the compiler.
     if let Condition::Cycle = condition {
         return Pair::At(i, lowest_lead(m, n, square, allowed, i, i));
     }
-    Pair::At(i, lowest_lead(m, n, square, allowed, i, breach.j))
+    Pair::At(i, lowest_lead(m, n, square, allowed, i, spot.j))
 }
 
 // What the rule takes next at the star x: the delete if insert and delete are both allowed, otherwise the exchange.
 pub fn star_taken(
     words: &[u16],
     m: &[u8],
-    low: &[u16; 256],
+    flags: &[u8; 256],
     x: usize,
     kids: &[u16],
     n: Numbering,
 ) -> Found
-    requires { ⌜ Visited (now words) (now m) (now low) x (now kids) n × IsStar (now words) x ⌝ }
+    requires { ⌜ Visited (now words) (now m) (now flags) x (now kids) n × IsStar (now words) x ⌝ }
     ensures { λ r. ⌜ StarTaken (now (words .entry)) (now (m .entry)) x r ⌝ }
 {
-    let breach = star_breach(words, m, low, x, kids, n);
-    let condition = breach.condition;
+    let spot = star_breach(words, m, flags, x, kids, n);
+    let condition = spot.condition;
     if let Condition::None = condition {
         return Found::Nothing;
     }

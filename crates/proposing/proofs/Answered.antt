@@ -4,6 +4,7 @@ use mathlib.Core.Path.{_≡_, sym, ap, _∙_}
 use mathlib.Core.List.{List}
 use Rattle.table.specs.Lowest.{LowestAt}
 use Rattle.table.proofs.Answers.{lowest-one}
+use Rattle.table.proofs.HowMany.{many-one}
 use Rattle.verdict.specs.Breaches.{spotOf}
 use Rattle.verdict.specs.Answers.{refusal, breached}
 use Rattle.verdict.specs.Answers as answers
@@ -22,24 +23,24 @@ propose-one (ProposeAnswer.refused n e) (ProposeAnswer.refused m f) = e ∙ refu
 propose-one (ProposeAnswer.refused n e) (unfit p u f) = absurd (policy-not p n)
 propose-one (ProposeAnswer.refused n e) (changed p t l f) = absurd (policy-not p n)
 propose-one (ProposeAnswer.refused n e) (broken p t k g f) = absurd (policy-not p n)
-propose-one (ProposeAnswer.refused n e) (accepted p t k q f) = absurd (policy-not p n)
+propose-one (ProposeAnswer.refused n e) (accepted p t k q h f) = absurd (policy-not p n)
 propose-one (unfit p u e) (ProposeAnswer.refused m f) = absurd (policy-not p m)
 propose-one (unfit p u e) (unfit q w f) = e ∙ refusal-one (unfit-one u w) ∙ sym f
 propose-one (unfit p u e) (changed q t l f) = absurd (fit-not t u)
 propose-one (unfit p u e) (broken q t k g f) = absurd (fit-not t u)
-propose-one (unfit p u e) (accepted q t k r f) = absurd (fit-not t u)
+propose-one (unfit p u e) (accepted q t k r h f) = absurd (fit-not t u)
 propose-one (changed p t l e) (ProposeAnswer.refused m f) = absurd (policy-not p m)
 propose-one (changed p t l e) (unfit q w f) = absurd (fit-not t w)
 propose-one (changed p t l e) (changed q u k f) = e ∙ ap (refusal 15) (lowest-one l k) ∙ sym f
 propose-one (changed p t l e) (broken q u k g f) = absurd (not-kept k l)
-propose-one (changed p t l e) (accepted q u k r f) = absurd (not-kept k l)
+propose-one (changed p t l e) (accepted q u k r h f) = absurd (not-kept k l)
 propose-one (broken p t k g e) (ProposeAnswer.refused m f) = absurd (policy-not p m)
 propose-one (broken p t k g e) (unfit q w f) = absurd (fit-not t w)
 propose-one (broken p t k g e) (changed q u l f) = absurd (not-kept k l)
 propose-one {ws} {marks} {proposed} (broken p t k g e) (broken q u l h f) = e ∙ ap breached (first-one ws proposed g h) ∙ sym f
-propose-one {ws} {marks} {proposed} (broken {b = b} p t k g e) (accepted q u l r f) = absurd (clean-none ws proposed r (spotOf b) (b .privilege) (g .breach))
-propose-one (accepted p t k r e) (ProposeAnswer.refused m f) = absurd (policy-not p m)
-propose-one (accepted p t k r e) (unfit q w f) = absurd (fit-not t w)
-propose-one (accepted p t k r e) (changed q u l f) = absurd (not-kept k l)
-propose-one {ws} {marks} {proposed} (accepted p t k r e) (broken {b = b} q u l g f) = absurd (clean-none ws proposed r (spotOf b) (b .privilege) (g .breach))
-propose-one (accepted p t k r e) (accepted q u l s f) = e ∙ sym f
+propose-one {ws} {marks} {proposed} (broken {b = b} p t k g e) (accepted q u l r h f) = absurd (clean-none ws proposed r (spotOf b) (b .privilege) (g .breach))
+propose-one (accepted p t k r h e) (ProposeAnswer.refused m f) = absurd (policy-not p m)
+propose-one (accepted p t k r h e) (unfit q w f) = absurd (fit-not t w)
+propose-one (accepted p t k r h e) (changed q u l f) = absurd (not-kept k l)
+propose-one {ws} {marks} {proposed} (accepted p t k r h e) (broken {b = b} q u l g f) = absurd (clean-none ws proposed r (spotOf b) (b .privilege) (g .breach))
+propose-one (accepted p t k r h e) (accepted q u l s i f) = e ∙ ap answers.done (many-one h i) ∙ sym f

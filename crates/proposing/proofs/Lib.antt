@@ -1,4 +1,3 @@
 -- Laws of the definitions of specs/, and tests that compute them.
-pub mod Changes
 pub mod Answered
 pub mod ProposeTests

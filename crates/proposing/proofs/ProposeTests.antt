@@ -13,7 +13,8 @@ use Rattle.table.specs.Check.{Accepted, TableAnswer}
 use Rattle.table.specs.declared.Checked.{Checked}
 use Rattle.table.specs.declared.Found.{Found}
 use Rattle.table.specs.declared.Found.the-variants.{At, Nothing}
-use Rattle.table.proofs.Test.{Test, isAtMost, isEqual, both, either, lowestOf, lowest-of}
+use Rattle.table.proofs.Test.{Test, isAtMost, isEqual, both, either, fails, lowestOf, lowest-of}
+use Rattle.table.proofs.HowMany.{countBy, count-by}
 use Rattle.table.proofs.TableTests.{answerOf, answer-of}
 use Rattle.policy.specs.Marks.{Legal, Fit, Unfit, length-off, mark-above, Policy, NoPolicy, table, marks}
 use Rattle.verdict.specs.Below.{ForbiddenBelow}
@@ -26,7 +27,7 @@ use Rattle.verdict.specs.declared.Condition.{Condition}
 use Rattle.verdict.specs.declared.Condition.the-variants.{None, InsertDelete, Chain, Cycle}
 use Rattle.policy.proofs.Policies.{table-accepted}
 use Rattle.verdict.proofs.PolicyTests.{allowed, forbidden, verdictBy, verdict-by}
-use Rattle.proposing.specs.Proposals.{Kept, changes}
+use Rattle.proposing.specs.Proposals.{Kept, Changed}
 use Rattle.proposing.specs.Answers.{AllKept, ProposeAnswer, refused, unfit, changed, accepted}
 use Rattle.proposing.specs.Answers as outcomes
 
@@ -83,10 +84,13 @@ module _ (ws m : List ℕ) where
 abbrev pub kept : (m n : List ℕ) (p : ℕ) → Test (Kept m n p)
 kept m n p = either (isEqual (getD n p 0) (getD m p 0)) (both (allowed m p) (forbidden n p))
 
+abbrev changedAt : (m n : List ℕ) (p : ℕ) → Test (Changed m n p)
+changedAt m n p = fails (isEqual (getD n p 0) (getD m p 0))
+
 module _ (ws m n : List ℕ) where
   -- by the proposed policy's first breach
   abbrev judgeAt : Condition → Breach → Answer
-  judgeAt None b = answers.done (changes m n (privileges ws))
+  judgeAt None b = answers.done (countBy (privileges ws) (changedAt m n))
   judgeAt InsertDelete b = breached b
   judgeAt Chain b = breached b
   judgeAt Cycle b = breached b
@@ -119,7 +123,7 @@ module _ (ws m n : List ℕ) where
       breach Cycle b h = refl
 
       judge : Policy ws m → Fit (privileges ws) n → AllKept ws m n → (b : Breach) → Verdict ws n b → ProposeAnswer ws m n (judgeAt (b .condition) b)
-      judge p f k b (clean q e) = accepted p f k q (rw e)
+      judge p f k b (clean q e) = accepted p f k q (count-by (privileges ws) (changedAt m n)) (rw e)
       judge p f k b (broken g) = outcomes.broken p f k g (breach (b .condition) b (g .breach))
 
       compare : Policy ws m → Fit (privileges ws) n → (r : Found) → Lowest (Kept m n) (privileges ws) r → ProposeAnswer ws m n (compareBy r)

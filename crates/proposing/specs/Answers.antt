@@ -3,6 +3,7 @@ use Prim.Native.Nat.{ℕ, _<_}
 use mathlib.Core.Path.{_≡_}
 use mathlib.Core.List.{List}
 use Rattle.table.specs.Lowest.{LowestAt}
+use Rattle.table.specs.HowMany.{HowMany}
 use Rattle.table.specs.Privilege.{privileges}
 use Rattle.policy.specs.Marks.{Fit, Unfit, NoPolicy, Policy}
 use Rattle.verdict.specs.Conditions.{Clean}
@@ -10,7 +11,7 @@ use Rattle.verdict.specs.Breaches.{FirstBreach}
 use Rattle.verdict.specs.Answers.{refusal, breached, done}
 use Rattle.verdict.specs.declared.Answer.{Answer}
 use Rattle.verdict.specs.declared.Breach.{Breach}
-use Rattle.proposing.specs.Proposals.{Kept, changes}
+use Rattle.proposing.specs.Proposals.{Kept, Changed}
 
 -- every proposed mark is equal, or went from 1 to 2
 abbrev pub AllKept : List ℕ → List ℕ → List ℕ → Type 0
@@ -28,6 +29,6 @@ pub data ProposeAnswer (ws marks proposed : List ℕ) (a : Answer) : Type 0 wher
   -- 16
   broken : {b : Breach} → Policy ws marks → Fit (privileges ws) proposed → AllKept ws marks proposed → FirstBreach ws proposed b
       → a ≡ breached b → ProposeAnswer ws marks proposed a
-  -- accepted
-  accepted : Policy ws marks → Fit (privileges ws) proposed → AllKept ws marks proposed → Clean ws proposed
-      → a ≡ done (changes marks proposed (privileges ws)) → ProposeAnswer ws marks proposed a
+  -- accepted, with how many marks changed
+  accepted : {count : ℕ} → Policy ws marks → Fit (privileges ws) proposed → AllKept ws marks proposed → Clean ws proposed
+      → HowMany (Changed marks proposed) (privileges ws) count → a ≡ done count → ProposeAnswer ws marks proposed a

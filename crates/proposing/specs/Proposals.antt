@@ -2,18 +2,15 @@
 -- new policy is clean; the answer is the number of changed marks. Assumes nothing.
 use Prim.Native.Nat.{ℕ}
 use mathlib.Core.Path.{_≡_}
-use mathlib.Core.Logic.{_⊎_}
-use mathlib.Core.Bool.{cond}
+use mathlib.Core.Logic.{_≢_, _⊎_}
 use mathlib.Core.List.{List}
-use lib.Dec.{eqb}
 use lib.ListN.{getD}
-use Rattle.table.specs.Sum.{sumBelow}
 use Rattle.policy.specs.Marks.{Allowed, Forbidden}
 
 -- the mark of p is equal, or went from 1 to 2
 abbrev pub Kept : List ℕ → List ℕ → ℕ → Type 0
 Kept m n p = (getD n p 0 ≡ getD m p 0) ⊎ (Allowed m p × Forbidden n p)
 
--- how many of the first v marks changed
-abbrev pub changes : List ℕ → List ℕ → ℕ → ℕ
-changes m n v = sumBelow (λ p. cond (eqb (getD n p 0) (getD m p 0)) 0 1) v
+-- the mark of p changed
+abbrev pub Changed : List ℕ → List ℕ → ℕ → Type 0
+Changed m n p = getD n p 0 ≢ getD m p 0

@@ -3,8 +3,9 @@ ghost use mathlib.Core.Path.{_≡_};
 ghost use mathlib.Core.Logic.{_⊎_};
 ghost use Prim.Native.Nat.{ℕ, _≤_, _<_};
 ghost use lib.ListN.{length};
+ghost use Rattle.table.specs.HowMany.{HowMany};
 ghost use Rattle.table.specs.steps.Found.{Lowest, Tells};
-ghost use Rattle.proposing.specs.Proposals.{Kept, changes};
+ghost use Rattle.proposing.specs.Proposals.{Kept, Changed};
 use table::Found;
 
 // Is the mark equal, or did it go from 1 to 2?
@@ -55,7 +56,7 @@ pub fn lowest_change(marks: &[u8], proposed: &[u8], v: usize) -> Found
 // How many of the first v marks changed. Counted in 16 bits, eight at a time.
 pub fn count_changes(marks: &[u8], proposed: &[u8], v: usize) -> usize
     requires { ⌜ (v ≤ length (now marks)) × (v ≤ length (now proposed)) × (v ≤ 4096) ⌝ }
-    ensures { λ r. ⌜ r ≡ changes (now (marks .entry)) (now (proposed .entry)) v ⌝ }
+    ensures { λ r. ⌜ HowMany (Changed (now (marks .entry)) (now (proposed .entry))) v r ⌝ }
 {
     let mut count = 0u16;
     let mut p = 0;

@@ -1,2 +1,3 @@
--- The samples, in one table.
+-- The samples, in two tables.
 pub mod Samples
+pub mod CountSamples

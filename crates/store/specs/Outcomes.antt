@@ -1,5 +1,5 @@
--- What a call answers to a program in another language: eight numbers (document 01, "Numbers of the answers and their order"; document 02, order
--- 3). Assumes nothing.
+-- What a call answers to a program in another language: nine numbers (document 01, "Numbers of the answers and their order"; document 02,
+-- orders 3 and 8). Assumes nothing.
 use Prim.Native.Nat.{ℕ}
 use mathlib.Core.Path.{_≡_}
 use mathlib.Core.List.{List}
@@ -21,6 +21,7 @@ outcomeOf a = record {
   i = a .breach .i;
   j = a .breach .j;
   privilege = a .breach .privilege;
+  forbidden = a .breach .forbidden;
 }
 
 -- checking a table as an answer: its number and place, the rest 0

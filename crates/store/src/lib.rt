@@ -1,5 +1,5 @@
-// The six calls for programs in C and Rust: runs and lengths in, eight numbers out. include/finnedscarf.h declares them.
-// Contracts cite specs/Outcomes for the eight numbers, and the definitions of the crate that makes the call for the answer.
+// The six calls for programs in C and Rust: runs and lengths in, nine numbers out. include/finnedscarf.h declares them.
+// Contracts cite specs/Outcomes for the nine numbers, and the definitions of the crate that makes the call for the answer.
 ghost use mathlib.Core.Path.{_≡_};
 ghost use Rattle.verdict.specs.Answers.{JudgeAnswer};
 ghost use Rattle.completion.specs.Answers.{CompleteAnswer};
@@ -16,7 +16,7 @@ use verdict::judge_policy;
 use verdict::number_of;
 use verdict::refused;
 
-// An answer as eight numbers: the condition by its number, 0 where there is none.
+// An answer as nine numbers: the condition by its number, 0 where there is none.
 #[repr(C)]
 pub struct Outcome {
     pub number: usize,
@@ -27,6 +27,7 @@ pub struct Outcome {
     pub i: usize,
     pub j: usize,
     pub privilege: usize,
+    pub forbidden: usize,
 }
 
 fn outcome_of(answer: Answer) -> Outcome
@@ -43,10 +44,11 @@ fn outcome_of(answer: Answer) -> Outcome
         i: breach.i,
         j: breach.j,
         privilege: breach.privilege,
+        forbidden: breach.forbidden,
     }
 }
 
-// Checks a run of words: 0 and V where it is a table, else 1 to 9 or 19 and the place. The other six numbers are 0.
+// Checks a run of words: 0 and V where it is a table, else 1 to 9 or 19 and the place. The other seven numbers are 0.
 #[no_mangle]
 pub extern "C" fn finnedscarf_check_table(words: &[u16]) -> Outcome
     ensures { λ r. ⌜ Told (CheckAnswer (now (words .entry))) r ⌝ }
@@ -56,7 +58,7 @@ pub extern "C" fn finnedscarf_check_table(words: &[u16]) -> Outcome
 }
 
 // Reads DTD text: refuses with 20 to 22, 4, 7, 19, 8, 9 or 12 and leaves the result as it was, or answers 0 and V, writes the text's table into it and
-// keeps its rest. The other six numbers are 0.
+// keeps its rest. The other seven numbers are 0.
 #[no_mangle]
 pub extern "C" fn finnedscarf_read_dtd(text: &[u8], out: &mut [u16]) -> Outcome
     ensures { λ r. ⌜ Told (λ a. ReadAnswer (now (text .entry)) (now (out .entry)) a (now (out .exit))) r ⌝ }
@@ -65,7 +67,7 @@ pub extern "C" fn finnedscarf_read_dtd(text: &[u8], out: &mut [u16]) -> Outcome
     outcome_of(refused(read.number, read.place))
 }
 
-// Judges a policy: refuses with 1 to 11 or 19, or answers 0 with the first breach, five zeros where there is none.
+// Judges a policy: refuses with 1 to 11 or 19, or answers 0 with the first breach, zeros where there is none.
 #[no_mangle]
 pub extern "C" fn finnedscarf_judge_policy(words: &[u16], marks: &[u8]) -> Outcome
     ensures { λ r. ⌜ Told (JudgeAnswer (now (words .entry)) (now (marks .entry))) r ⌝ }

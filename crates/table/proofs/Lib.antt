@@ -21,6 +21,7 @@ pub mod Rooted
 pub mod Stamps
 pub mod Facts
 pub mod Test
+pub mod HowMany
 pub mod Walks
 pub mod Answers
 pub mod BelowTests

@@ -6,7 +6,7 @@ ghost use Rattle.table.specs.Check.{TableAnswer};
 ghost use Rattle.table.specs.steps.Accepting.{OrderedAnswer};
 
 mod accept;
-mod below;
+pub mod below;
 mod check;
 mod order;
 pub mod privilege;

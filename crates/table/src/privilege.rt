@@ -76,19 +76,26 @@ pub fn privileges_at(words: &[u16], x: usize) -> usize
     privileges_in(words, x, gap_of(words))
 }
 
+// The first privilege of type x: how many the types before it have.
+pub fn first_privilege(words: &[u16], x: usize) -> usize
+    requires { ⌜ Laid (now words) × (x ≤ types (now words)) ⌝ }
+    ensures { λ r. ⌜ Within 281474976710656 (firstPrivilege (now (words .entry)) x) r ⌝ }
+{
+    let mut sum = 0;
+    let mut y = 0;
+    while y < x {
+        sum += privileges_at(words, y);
+        y += 1;
+    }
+    sum
+}
+
 // V, the number of privileges.
 pub(crate) fn privileges(words: &[u16]) -> usize
     requires { ⌜ Laid (now words) ⌝ }
     ensures { λ r. ⌜ Within 281474976710656 (privileges (now (words .entry))) r ⌝ }
 {
-    let n = types(words);
-    let mut sum = 0;
-    let mut x = 0;
-    while x < n {
-        sum += privileges_at(words, x);
-        x += 1;
-    }
-    sum
+    first_privilege(words, types(words))
 }
 
 // Writes the first privilege of each type of a table, and leaves what stands behind the types.

@@ -1,9 +1,10 @@
 // A type's rule and its children. Contracts cite specs/Rule, and specs/steps/Reading for what must stand in the run.
 ghost use mathlib.Core.Path.{_≡_};
 ghost use Rattle.table.specs.steps.Reading.{HasRecord, ReadAs, HasChildren};
-ghost use Rattle.table.specs.Rule.{ruleOf, ruleAt, childrenAt};
+ghost use Rattle.table.specs.Rule.{ruleOf, ruleAt, childrenAt, childAt};
 use super::words::record_word;
 use super::words::types;
+use super::words::word_at;
 
 // A type's rule, with the index of its first child in the child list and the number of its children.
 pub enum Rule {
@@ -47,4 +48,12 @@ pub fn children(words: &[u16], t: usize) -> &[u16]
     let a = 8 + 3 * types(words) + record_word(words, t, 2);
     let b = a + record_word(words, t, 1);
     &words[a..b]
+}
+
+// The child of type t at position i.
+pub fn child_at(words: &[u16], t: usize, i: usize) -> usize
+    requires { ⌜ HasChildren (now words) t ⌝ }
+    ensures { λ r. ⌜ r ≡ childAt (now (words .entry)) t i ⌝ }
+{
+    word_at(children(words, t), i)
 }

@@ -14,9 +14,9 @@ use Rattle.policy.specs.Renewed.{Renewed, by-both, Barred}
 use Rattle.policy.specs.steps.Squares.{Square}
 use Rattle.policy.proofs.SquareLaws.{marked-told, told-marked}
 use Rattle.policy.proofs.Reaches.{reached-from, reached-to}
-use Rattle.verdict.specs.Breaches.{conditionNumber, Spot, spotOf, StarBroken, at-exchange, at-below, InsertDeleteBreach, ChainBreach, CycleBreach, BreachOf, key, Lex}
-use Rattle.verdict.specs.steps.Visits.{brokenStar, Broken, FirstAt, Searched, none, first, BreachAt, CycleAt}
-use Rattle.verdict.specs.declared.Breach.{Breach}
+use Rattle.verdict.specs.Breaches.{conditionNumber, StarBroken, at-exchange, at-below, InsertDeleteBreach, ChainBreach, CycleBreach, BreachOf, key, Lex}
+use Rattle.verdict.specs.steps.Visits.{starSpot, Broken, FirstAt, Searched, none, first, BreachAt, CycleAt}
+use Rattle.verdict.specs.declared.Spot.{Spot}
 use Rattle.verdict.specs.declared.Condition.{Condition}
 use Rattle.verdict.specs.declared.Condition.the-variants.{InsertDelete, Chain, Cycle}
 use Rattle.verdict.proofs.Firsts.{lex-more, lex-end, lex-cases, Cases, breach-cases}
@@ -63,10 +63,11 @@ module _ (ws marks : List ℕ) (B : ℕ → ℕ → Type 0) (x : ℕ) where
     pub star-free : ¬ Barred ws marks x → ((q : ℕ) → ¬ B (childAt ws x 0) q) → (s : Spot) (p : ℕ) → ¬ BreachAt ws marks B x s p
     star-free d n s p b = elim (broken-here s p b) [ at-exchange f q ↦ d f | at-below f r w ↦ n p w ]
 
-    pub star-first : {p : ℕ} → StarBroken ws marks B x p → Searched (BreachAt ws marks B x) (brokenStar x p)
-    star-first {p} f = first
-        (record { breach = record { star = star; zero-i = refl; zero-j = refl; broken = f }; here = refl })
-        (λ s q b l. go s q b (star-only star s q b) l)
+    pub star-first : {p : ℕ} → StarBroken ws marks B x p → Searched (BreachAt ws marks B x) (starSpot x)
+    star-first {p} f = first (record {
+      broken = (p, record { breach = record { star = star; zero-i = refl; zero-j = refl; broken = f }; here = refl });
+      first = λ s q b l. go s q b (star-only star s q b) l;
+    })
       where
         go : (s : Spot) (q : ℕ) → BreachAt ws marks B x s q → (s .condition ≡ InsertDelete) × InsertDeleteBreach ws marks B s q → ¬ Lex (key s) (x ∷ 1 ∷ 0 ∷ 0 ∷ [])
         go s q b (k, h) l =
@@ -93,9 +94,11 @@ module _ (ws marks : List ℕ) (B : ℕ → ℕ → Type 0) (x : ℕ) where
         free (s .i) (omega (arith, numbered .count, reached-from r)) (s .j) (omega (arith, numbered .count, reached-to r)) (chain-broken s p h e)
 
     pub chain-first : {i j : ℕ} → FirstAt (Broken marks n square) (n .count) i j
-        → Searched (BreachAt ws marks B x) (record { condition = Chain; element = x; i = i; j = j; privilege = replaceIn n i j })
-    chain-first {i} {j} f = first
-        (record {
+        → Searched (BreachAt ws marks B x) (record { condition = Chain; element = x; i = i; j = j })
+    chain-first {i} {j} f = first (record {
+      broken = (
+        replaceIn n i j,
+        record {
           breach = record {
             choice = choice;
             reached = marked-told tells i j (record { from = omega (arith, numbered .count, f .from); to = omega (arith, numbered .count, f .to); is = f .holds .leads });
@@ -104,8 +107,10 @@ module _ (ws marks : List ℕ) (B : ℕ → ℕ → Type 0) (x : ℕ) where
             forbidden = f .holds .forbidden .is;
           };
           here = refl;
-        })
-        (λ s p b l. go s p (b .here) (choice-only choice s p b) l)
+        },
+      );
+      first = λ s p b l. go s p (b .here) (choice-only choice s p b) l;
+    })
       where
         pair : (s : Spot) (p : ℕ) → s .element ≡ x → ChainBreach ws marks s p → Lex (s .i ∷ s .j ∷ []) (i ∷ j ∷ []) → ⊥
         pair s p e h l = at (lex-cases l)
@@ -129,8 +134,8 @@ module _ (ws marks : List ℕ) (B : ℕ → ℕ → Type 0) (x : ℕ) where
 
     -- where there is no chain, the first cycle is the first breach
     pub choice-at : ((a : ℕ) → a < n .count → (b : ℕ) → b < n .count → ¬ Broken marks n square a b)
-        → {b : Breach} → Searched (CycleAt ws marks B x) b → Searched (BreachAt ws marks B x) b
-    choice-at free {b} found = by found
+        → {s : Spot} → Searched (CycleAt ws marks B x) s → Searched (BreachAt ws marks B x) s
+    choice-at free {s} found = by found
       where
         cycle : (s : Spot) (p : ℕ) → BreachAt ws marks B x s p → CycleAt ws marks B x s p
         cycle s p h = elim (choice-only choice s p h) [
@@ -138,11 +143,15 @@ module _ (ws marks : List ℕ) (B : ℕ → ℕ → Type 0) (x : ℕ) where
           | inr g ↦ record { of-cycle = g .0; breach = g .1; here = h .here }
         ]
 
-        by : Searched (CycleAt ws marks B x) b → Searched (BreachAt ws marks B x) b
-        by (none e f) = none e (λ s p h. f s p (cycle s p h))
-        by (first h f) = first
-            (record { breach = subst (λ (d : Condition). BreachOf ws marks B d (spotOf b) (b .privilege)) (sym (h .of-cycle)) (h .breach); here = h .here })
-            (λ s p g. f s p (cycle s p g))
+        by : Searched (CycleAt ws marks B x) s → Searched (BreachAt ws marks B x) s
+        by (none e f) = none e (λ t p h. f t p (cycle t p h))
+        by (first f) =
+            let p = f .broken .0 in
+            let h = f .broken .1 in
+            first (record {
+              broken = (p, record { breach = subst (λ (d : Condition). BreachOf ws marks B d s p) (sym (h .of-cycle)) (h .breach); here = h .here });
+              first = λ t q g. f .first t q (cycle t q g);
+            })
 
   -- cycles, position by position: those before i have none
   abbrev pub CyclesFrom : ℕ → Type 0
@@ -165,10 +174,11 @@ module _ (ws marks : List ℕ) (B : ℕ → ℕ → Type 0) (x : ℕ) where
       omega (arith, reached-from r)
 
   pub cycle-first : {i p : ℕ} → IsChoice ws x → CyclesFrom i → Reached ws (Allowed marks) x i i → B (childAt ws x i) p
-      → Searched (CycleAt ws marks B x) (record { condition = Cycle; element = x; i = i; j = i; privilege = p })
-  cycle-first {i} {p} choice g r f = first
-      (record { of-cycle = refl; breach = record { choice = choice; same = refl; reached = r; below = f }; here = refl })
-      (λ s q h l. at s q h (lex-cases (lex-more (omega (arith, ap conditionNumber (h .of-cycle))) (lex-more (omega (arith, h .here)) l))))
+      → Searched (CycleAt ws marks B x) (record { condition = Cycle; element = x; i = i; j = i })
+  cycle-first {i} {p} choice g r f = first (record {
+    broken = (p, record { of-cycle = refl; breach = record { choice = choice; same = refl; reached = r; below = f }; here = refl });
+    first = λ s q h l. at s q h (lex-cases (lex-more (omega (arith, ap conditionNumber (h .of-cycle))) (lex-more (omega (arith, h .here)) l)));
+  })
     where
       at : (s : Spot) (q : ℕ) → CycleAt ws marks B x s q → (s .i < i) ⊎ ((s .i ≡ i) × Lex (s .j ∷ []) (i ∷ [])) → ⊥
       at s q h (inl k) = omega (arith, g s q h)

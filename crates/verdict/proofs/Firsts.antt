@@ -8,12 +8,14 @@ use lib.ListN.{length, getD}
 use Rattle.table.specs.Words.{types}
 use Rattle.table.specs.Privilege.{exchangeOf, replaceOf}
 use Rattle.table.proofs.Lists.{le-or-lt}
+use Rattle.table.proofs.HowMany.{many-one}
 use Rattle.policy.specs.Renewed.{Barred}
 use Rattle.verdict.specs.Below.{ForbiddenBelow}
 use Rattle.verdict.specs.Conditions.{Clean}
-use Rattle.verdict.specs.Breaches.{conditionNumber, Spot, spotOf, at-exchange, at-below, InsertDeleteBreach, ChainBreach, CycleBreach, BreachOf, BreachBy, IsBreach, key}
+use Rattle.verdict.specs.Breaches.{conditionNumber, spotOf, at-exchange, at-below, InsertDeleteBreach, ChainBreach, CycleBreach, BreachOf, BreachBy, IsBreach, key}
 use Rattle.verdict.specs.Breaches.{Lex, less, same, FirstSpot, FirstBreach, Verdict, clean, broken}
 use Rattle.verdict.specs.steps.Visits.{Searched, none, first, BreachAt}
+use Rattle.verdict.specs.declared.Spot.{Spot}
 use Rattle.verdict.specs.declared.Breach.{Breach}
 use Rattle.verdict.specs.declared.Condition.{Condition}
 use Rattle.verdict.specs.declared.Condition.the-variants.{None, InsertDelete, Chain, Cycle}
@@ -61,8 +63,8 @@ key-one s t h =
     let j : s .j ≡ t .j = cc in
     λ d. record { condition = e d; element = x d; i = i d; j = j d }
 
-breach-one : (b c : Breach) → spotOf b ≡ spotOf c → b .privilege ≡ c .privilege → b ≡ c
-breach-one b c e p = λ d. record { condition = e d .condition; element = e d .element; i = e d .i; j = e d .j; privilege = p d }
+breach-one : (b c : Breach) → spotOf b ≡ spotOf c → b .privilege ≡ c .privilege → b .forbidden ≡ c .forbidden → b ≡ c
+breach-one b c e p n = λ d. record { condition = e d .condition; element = e d .element; i = e d .i; j = e d .j; privilege = p d; forbidden = n d }
 
 -- the first spot is one
 pub spot-one : {Breaks : Spot → ℕ → Type 0} {s t : Spot} → FirstSpot Breaks s → FirstSpot Breaks t → s ≡ t
@@ -108,25 +110,29 @@ module _ (ws marks : List ℕ) (B : ℕ → ℕ → Type 0) where
   pub clean-all : CleanBefore (types ws) → (s : Spot) (p : ℕ) → ¬ BreachBy ws marks B s p
   clean-all h s p b = omega (arith, h s p b, breach-type s p b)
 
-  -- what was found at one type, by its condition
-  pub at-none : {x : ℕ} {b : Breach} → Searched (BreachAt ws marks B x) b → b .condition ≡ None → (s : Spot) (p : ℕ) → BreachBy ws marks B s p → s .element ≢ x
-  at-none (none e n) k = λ s p h q. n s p (record { breach = h; here = q })
-  at-none {b = b} (first h f) k = absurd (subst (λ (d : Condition). BreachOf ws marks B d (spotOf b) (b .privilege)) k (h .breach))
+  -- a broken spot is of a condition
+  pub broken-some : (s : Spot) (p : ℕ) → BreachBy ws marks B s p → s .condition ≢ None
+  broken-some s p h e = subst (λ (c : Condition). BreachOf ws marks B c s p) e h
 
-  pub at-first : {x : ℕ} {b : Breach} → CleanBefore x → Searched (BreachAt ws marks B x) b → b .condition ≢ None → Searched (BreachBy ws marks B) b
-  at-first h (none e n) d = absurd (d (ap (λ (a : Breach). a .condition) e))
-  at-first {x} {b} h (first g f) d = first (g .breach) (λ s p c l. go s p c l (lex-cases l))
+  -- what was found at one type, by its condition
+  pub at-none : {x : ℕ} {s : Spot} → Searched (BreachAt ws marks B x) s → s .condition ≡ None → (t : Spot) (p : ℕ) → BreachBy ws marks B t p → t .element ≢ x
+  at-none (none e n) k = λ t p h q. n t p (record { breach = h; here = q })
+  at-none {s = s} (first f) k = absurd (broken-some s (f .broken .0) (f .broken .1 .breach) k)
+
+  pub at-first : {x : ℕ} {s : Spot} → CleanBefore x → Searched (BreachAt ws marks B x) s → s .condition ≢ None → Searched (BreachBy ws marks B) s
+  at-first h (none e n) d = absurd (d (ap (λ (t : Spot). t .condition) e))
+  at-first {x} {s} h (first f) d = first (record { broken = (f .broken .0, f .broken .1 .breach); first = λ t p c l. go t p c l (lex-cases l) })
     where
-      go : (s : Spot) (p : ℕ) → BreachBy ws marks B s p → Lex (key s) (key (spotOf b))
-          → (s .element < b .element) ⊎ ((s .element ≡ b .element) × Lex (conditionNumber (s .condition) ∷ s .i ∷ s .j ∷ []) (conditionNumber (b .condition) ∷ b .i ∷ b .j ∷ []))
+      go : (t : Spot) (p : ℕ) → BreachBy ws marks B t p → Lex (key t) (key s)
+          → (t .element < s .element) ⊎ ((t .element ≡ s .element) × Lex (conditionNumber (t .condition) ∷ t .i ∷ t .j ∷ []) (conditionNumber (s .condition) ∷ s .i ∷ s .j ∷ []))
           → ⊥
-      go s p c l (inl k) = omega (arith, h s p c, g .here)
-      go s p c l (inr (e, k)) = f s p (record { breach = c; here = e ∙ g .here }) l
+      go t p c l (inl k) = omega (arith, h t p c, f .broken .1 .here)
+      go t p c l (inr (e, k)) = f .first t p (record { breach = c; here = e ∙ f .broken .1 .here }) l
 
 -- what a search has found is the first spot
-pub searched-first : {Breaks : Spot → ℕ → Type 0} {b : Breach} → Searched Breaks b → b .condition ≢ None → FirstSpot Breaks (spotOf b)
-searched-first (none e n) d = absurd (d (ap (λ (a : Breach). a .condition) e))
-searched-first {b = b} (first h f) d = record { broken = (b .privilege, h); first = f }
+pub searched-first : {Breaks : Spot → ℕ → Type 0} {s : Spot} → Searched Breaks s → s .condition ≢ None → FirstSpot Breaks s
+searched-first (none e n) d = absurd (d (ap (λ (t : Spot). t .condition) e))
+searched-first (first f) d = f
 
 module _ (ws marks : List ℕ) where
   abbrev Here : ℕ → ℕ → Type 0
@@ -136,6 +142,7 @@ module _ (ws marks : List ℕ) where
   first-one {b} {c} f g =
       let e : spotOf b ≡ spotOf c = spot-one (f .spot) (g .spot) in
       breach-one b c e (omega (arith, f .lowest (c .privilege) (rw e (g .breach)), g .lowest (b .privilege) (rw (← e) (f .breach))))
+      (many-one (f .count) (rw e (g .count)))
 
   -- a clean policy has no breach, and one with none is clean
   pub clean-none : Clean ws marks → (s : Spot) (p : ℕ) → ¬ IsBreach ws marks s p

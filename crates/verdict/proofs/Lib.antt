@@ -1,8 +1,10 @@
 -- Laws of the definitions of specs/, a file for each notion, and tests that compute them; the layers above use what is marked pub.
-pub mod Lows
+pub mod Spoils
+pub mod Tallies
 pub mod Firsts
 pub mod Breached
-pub mod Kept
+pub mod Flagged
+pub mod Breakers
 pub mod Forced
 pub mod Carried
 pub mod Renumbered

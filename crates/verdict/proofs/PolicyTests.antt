@@ -11,23 +11,30 @@ use lib.Dec.{T}
 use lib.ListN.{length, getD}
 use Rattle.table.specs.Words.{types}
 use Rattle.table.specs.Rule.{countOf, childAt}
-use Rattle.table.specs.Privilege.{privileges, insertOf, deleteOf, exchangeOf, replaceOf, exchange, replace}
-use Rattle.table.proofs.Privileges.{belongs-below, edit-below}
+use Rattle.table.specs.Privilege.{privileges, insertOf, deleteOf, exchangeOf, replaceOf}
 use Rattle.table.specs.Check.{Accepted}
-use Rattle.table.proofs.Test.{Test, isAtMost, isEqual, both, either, fails, means, some, every}
+use Rattle.table.specs.steps.Found.{Lowest}
+use Rattle.table.specs.declared.Found.{Found}
+use Rattle.table.specs.declared.Found.the-variants.{At, Nothing}
+use Rattle.table.proofs.Test.{Test, isAtMost, isEqual, both, either, fails, means, settle, some, every, lowestOf, lowest-of}
 use Rattle.table.proofs.Answers.{accepted-answer}
 use Rattle.table.proofs.TableTests.{ofKind, exchangeable, replaceable, belongs, answerOf, answer-of}
 use Rattle.policy.specs.Marks.{Allowed, Forbidden, Fit, Policy}
-use Rattle.verdict.specs.Below.{PrivilegeBelow, ForbiddenBelow}
+use Rattle.verdict.specs.Below.{PrivilegeBelow, ForbiddenBelow, ForbiddenTally}
+use Rattle.verdict.specs.declared.below.Tally.{Tally}
 use Rattle.policy.specs.Reached.{Step, Reached}
 use Rattle.policy.specs.Renewed.{Both, Renewed, by-both, by-exchange, Barred}
-use Rattle.verdict.specs.Breaches.{conditionNumber, noBreach, Spot, StarBroken, at-exchange, at-below, InsertDeleteBreach, ChainBreach, CycleBreach, BreachOf, IsBreach}
+use Rattle.verdict.specs.Breaches.{conditionNumber, noBreach, StarBroken, at-exchange, at-below, InsertDeleteBreach, ChainBreach, CycleBreach, BreachOf, IsBreach}
 use Rattle.verdict.specs.Breaches.{Lex, less, same, Verdict, clean, broken}
 use Rattle.verdict.specs.declared.Breach.{Breach}
+use Rattle.verdict.specs.declared.Spot.{Spot}
 use Rattle.verdict.specs.declared.Condition.{Condition}
 use Rattle.verdict.specs.declared.Condition.the-variants.{None, InsertDelete, Chain, Cycle}
 use Rattle.table.proofs.Lists.{le-or-lt}
+use Rattle.table.specs.HowMany.{HowMany, Tallied}
+use Rattle.table.proofs.HowMany.{many-one, many-none, countBy, count-by}
 use Rattle.verdict.proofs.Firsts.{conditionOf, condition-of, Cases, breach-cases, none-clean}
+use Rattle.verdict.proofs.Breakers.{breach-below}
 use Rattle.policy.proofs.Policies.{table-accepted}
 use Rattle.table.proofs.Walks.{closure}
 use Rattle.table.proofs.BelowTests.{below}
@@ -65,6 +72,26 @@ module _ (ws marks : List ℕ) where
   abbrev pub forbiddenBelow : (y p : ℕ) → Test (ForbiddenBelow ws marks y p)
   forbiddenBelow y p = means (λ h. record { forbidden = h .0; below = h .1 }) (λ h. (h .forbidden, h .below))
       (both (forbidden marks p) (privilegeBelow ws p y))
+
+  -- what is forbidden below y
+  abbrev lowestIn : Found → ℕ
+  lowestIn (At p) = p
+  lowestIn Nothing = 0
+
+  abbrev pub tallyBy : ℕ → Tally
+  tallyBy y = record { lowest = lowestIn (lowestOf (privileges ws) (λ p. fails (forbiddenBelow y p))); count = countBy (privileges ws) (forbiddenBelow y) }
+
+  pub tally-by : (y : ℕ) → ForbiddenTally ws marks y (tallyBy y)
+  tally-by y = go (lowestOf (privileges ws) (λ p. fails (forbiddenBelow y p))) (lowest-of (privileges ws) (λ p. fails (forbiddenBelow y p)))
+    where
+      many : HowMany (ForbiddenBelow ws marks y) (privileges ws) (countBy (privileges ws) (forbiddenBelow y))
+      many = count-by (privileges ws) (forbiddenBelow y)
+
+      go : (r : Found) → Lowest (λ p. ¬ ForbiddenBelow ws marks y p) (privileges ws) r
+          → Tallied (ForbiddenBelow ws marks y) (privileges ws) (lowestIn r) (countBy (privileges ws) (forbiddenBelow y))
+      go (At p) h = Tallied.some (h .within) (elim (settle (forbiddenBelow y p)) [ inl f ↦ f | inr f ↦ absurd (h .fails f) ])
+          (λ q l f. elim (le-or-lt p q) [ inl k ↦ k | inr k ↦ absurd (h .before q k f) ]) many
+      go Nothing h = Tallied.nothing h refl (many-one many (many-none (privileges ws) h))
 
   abbrev pub step : (x i j : ℕ) → Test (Step ws (Allowed marks) x i j)
   step x i j = means (λ h. record { can = h .0; allowed = h .1 }) (λ h. (h .can, h .allowed))
@@ -131,9 +158,6 @@ listed s p = s .element ∷ conditionNumber (s .condition) ∷ s .i ∷ s .j ∷
 abbrev spotIn : List ℕ → Spot
 spotIn l = record { condition = conditionOf (getD l 1 0); element = getD l 0 0; i = getD l 2 0; j = getD l 3 0 }
 
-abbrev breachIn : List ℕ → Breach
-breachIn l = record { condition = conditionOf (getD l 1 0); element = getD l 0 0; i = getD l 2 0; j = getD l 3 0; privilege = getD l 4 0 }
-
 spot-in : (s : Spot) (p : ℕ) → spotIn (listed s p) ≡ s
 spot-in s p = λ d. record { condition = condition-of (s .condition) d; element = s .element; i = s .i; j = s .j }
 
@@ -149,11 +173,19 @@ number-of (suc (suc zero)) l = refl
 number-of (suc (suc (suc zero))) l = refl
 number-of (suc (suc (suc (suc c)))) l = absurd (omega arith)
 
-abbrev breachOr : Option (List ℕ) → Breach
-breachOr none = noBreach
-breachOr (found s) = breachIn s
-
 module _ (ws marks : List ℕ) where
+  -- the breach of a list, with how many privileges break its spot
+  abbrev breachOr : Option (List ℕ) → Breach
+  breachOr none = noBreach
+  breachOr (found l) = record {
+    condition = conditionOf (getD l 1 0);
+    element = getD l 0 0;
+    i = getD l 2 0;
+    j = getD l 3 0;
+    privilege = getD l 4 0;
+    forbidden = countBy (privileges ws) (breach ws marks (spotIn l));
+  }
+
   -- the bounds of a breach's key: type, condition, i, j, privilege; condition 1 has i = j = 0
   abbrev width : ℕ → ℕ → ℕ
   width x zero = 0
@@ -166,7 +198,7 @@ module _ (ws marks : List ℕ) where
   abbrev passes : List ℕ → Bool
   passes l = breach ws marks (spotIn l) (getD l 4 0) .run
 
-  -- the first breach, or five zeros where there is none
+  -- the first breach, or none
   abbrev pub verdictBy : Breach
   verdictBy = breachOr (firstIn keys passes)
 
@@ -180,24 +212,23 @@ module _ (ws marks : List ℕ) where
   listed-in (x ∷ c ∷ i ∷ j ∷ p ∷ []) h = ap (λ (n : ℕ). x ∷ n ∷ i ∷ j ∷ p ∷ []) (number-of c (h .1 .0))
   listed-in (x ∷ c ∷ i ∷ j ∷ p ∷ q ∷ s) h = absurd (h .1 .1 .1 .1 .1)
 
-  broken-below : {x p : ℕ} → StarBroken ws marks (Here ws marks) x p → p < privileges ws
-  broken-below {x} (at-exchange b e) = rw e (edit-below ws (exchange x) (b .can))
-  broken-below (at-below d r w) = belongs-below (w .below .belongs)
-
   listed-inside : (s : Spot) (p : ℕ) → IsBreach ws marks s p → Inside keys (listed s p)
   listed-inside s p is = go (breach-cases ws marks (Here ws marks) s p is)
     where
+      here : p < privileges ws
+      here = breach-below ws marks s p is
+
       at : {c : Condition} → s .condition ≡ c → Inside keys (s .element ∷ conditionNumber c ∷ s .i ∷ s .j ∷ p ∷ []) → Inside keys (listed s p)
       at e h = subst⁻¹ (λ (c : Condition). Inside keys (s .element ∷ conditionNumber c ∷ s .i ∷ s .j ∷ p ∷ [])) e h
 
       go : Cases ws marks (Here ws marks) s p → Inside keys (listed s p)
       go (inl (e, h)) =
-          at e (h .star .type, (omega arith, (omega (arith, h .zero-i), (omega (arith, h .zero-j), (broken-below (h .broken), tt)))))
+          at e (h .star .type, (omega arith, (omega (arith, h .zero-i), (omega (arith, h .zero-j), (here, tt)))))
       go (inr (inl (e, h))) =
-          at e (h .choice .type, (omega arith, (h .can .from, (h .can .to, (rw (h .is) (edit-below ws (replace (s .element) (s .i) (s .j)) (h .can)), tt)))))
+          at e (h .choice .type, (omega arith, (h .can .from, (h .can .to, (here, tt)))))
       go (inr (inr (e, h))) =
           let from = reached-from (h .reached) in
-          at e (h .choice .type, (omega arith, (from, (rw (h .same) from, (belongs-below (h .below .below .belongs), tt)))))
+          at e (h .choice .type, (omega arith, (from, (rw (h .same) from, (here, tt)))))
 
   listed-passes : (s : Spot) (p : ℕ) → IsBreach ws marks s p → T (passes (listed s p))
   listed-passes s p is = breach ws marks (spotIn (listed s p)) p .into (subst⁻¹ (λ (t : Spot). IsBreach ws marks t p) (spot-in s p) is)
@@ -209,6 +240,7 @@ module _ (ws marks : List ℕ) where
     spot = record { broken = (getD l 4 0, here); first = λ t q b k. before t q b (lex-longer (q ∷ []) (getD l 4 0 ∷ []) k) };
     breach = here;
     lowest = λ q b. elim (le-or-lt (getD l 4 0) q) [ inl k ↦ k | inr k ↦ absurd (before (spotIn l) q b (same (same (same (same (less k)))))) ];
+    count = count-by (privileges ws) (breach ws marks (spotIn l));
   })
     where
       here : IsBreach ws marks (spotIn l) (getD l 4 0)

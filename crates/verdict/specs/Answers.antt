@@ -7,11 +7,11 @@ use Rattle.verdict.specs.Breaches.{noBreach, Verdict}
 use Rattle.verdict.specs.declared.Answer.{Answer}
 use Rattle.verdict.specs.declared.Breach.{Breach}
 
--- a refusal: count 0, five zeros
+-- a refusal: count 0, no breach
 abbrev pub refusal : ℕ → ℕ → Answer
 refusal number place = record { number = number; place = place; count = 0; breach = noBreach }
 
--- a done answer with a count: place 0, five zeros
+-- a done answer with a count: place 0, no breach
 abbrev pub done : ℕ → Answer
 done count = record { number = 0; place = 0; count = count; breach = noBreach }
 

@@ -1,15 +1,18 @@
--- A breach, the stated order of breaches, the first breach and the verdict (document 01, "The three conditions"; document 02, order 9). Assumes nothing.
+-- A breach, the stated order of breaches, the first breach and the verdict (document 01, "The three conditions"; document 02, orders 9 and 8).
+-- Assumes nothing.
 use Prim.Native.Nat.{ℕ, _≤_, _<_}
 use mathlib.Core.Path.{_≡_}
 use mathlib.Core.List.{List, [], _∷_}
 use Rattle.table.specs.Rule.{IsChoice, IsStar, childAt}
-use Rattle.table.specs.Privilege.{exchangeOf, replaceOf, Replaceable}
+use Rattle.table.specs.HowMany.{HowMany}
+use Rattle.table.specs.Privilege.{privileges, exchangeOf, replaceOf, Replaceable}
 use Rattle.policy.specs.Marks.{Allowed, Forbidden}
-use Rattle.verdict.specs.Below.{ForbiddenBelow}
+use Rattle.verdict.specs.Below.{ForbiddenBelow, ForbiddenTally}
 use Rattle.policy.specs.Reached.{Reached}
 use Rattle.policy.specs.Renewed.{Renewed, Barred}
 use Rattle.verdict.specs.Conditions.{Clean}
 use Rattle.verdict.specs.declared.Breach.{Breach}
+use Rattle.verdict.specs.declared.Spot.{Spot}
 use Rattle.verdict.specs.declared.Condition.{Condition}
 use Rattle.verdict.specs.declared.Condition.the-variants.{None, InsertDelete, Chain, Cycle}
 
@@ -20,17 +23,11 @@ conditionNumber InsertDelete = 1
 conditionNumber Chain = 2
 conditionNumber Cycle = 3
 
--- five zeros
+-- no breach: five zeros, and the count 0
 abbrev pub noBreach : Breach
-noBreach = record { condition = None; element = 0; i = 0; j = 0; privilege = 0 }
+noBreach = record { condition = None; element = 0; i = 0; j = 0; privilege = 0; forbidden = 0 }
 
 -- where a breach is: the condition, the type at which it is broken, and the two positions there
-pub record Spot : Type 0 where
-  pub condition : Condition
-  pub element : ℕ
-  pub i : ℕ
-  pub j : ℕ
-
 abbrev pub spotOf : Breach → Spot
 spotOf b = record { condition = b .condition; element = b .element; i = b .i; j = b .j }
 
@@ -88,13 +85,24 @@ pub record FirstSpot (Breaks : Spot → ℕ → Type 0) (s : Spot) : Type 0 wher
   pub broken : (p : ℕ) × Breaks s p
   pub first : (t : Spot) (q : ℕ) → Breaks t q → ¬ Lex (key t) (key s)
 
--- the first breach: at the first spot, by the lowest privilege
+-- the first breach: at the first spot, by the lowest privilege, and how many privileges break it
 pub record FirstBreach (ws marks : List ℕ) (b : Breach) : Type 0 where
   pub spot : FirstSpot (IsBreach ws marks) (spotOf b)
   pub breach : IsBreach ws marks (spotOf b) (b .privilege)
   pub lowest : (q : ℕ) → IsBreach ws marks (spotOf b) q → b .privilege ≤ q
+  pub count : HowMany (IsBreach ws marks (spotOf b)) (privileges ws) (b .forbidden)
 
--- five zeros if no condition is broken, else the first breach
+-- no breach if no condition is broken, else the first
 pub data Verdict (ws marks : List ℕ) (b : Breach) : Type 0 where
   clean : Clean ws marks → b ≡ noBreach → Verdict ws marks b
   broken : FirstBreach ws marks b → Verdict ws marks b
+
+-- The count of a breach as the document says it: "breaches of 1 and 3 pass the count on; condition 2 has count 1"; "where the replace itself is forbidden
+-- it is condition 1's privilege, with count 1".
+pub data PassesOn (ws marks : List ℕ) (b : Breach) : Type 0 where
+  star : b .condition ≡ InsertDelete → ¬ Barred ws marks (b .element)
+      → ForbiddenTally ws marks (childAt ws (b .element) 0) (record { lowest = b .privilege; count = b .forbidden }) → PassesOn ws marks b
+  replace : b .condition ≡ InsertDelete → Barred ws marks (b .element) → b .privilege ≡ exchangeOf ws (b .element) → b .forbidden ≡ 1 → PassesOn ws marks b
+  chain : b .condition ≡ Chain → b .forbidden ≡ 1 → PassesOn ws marks b
+  cycle : b .condition ≡ Cycle → ForbiddenTally ws marks (childAt ws (b .element) (b .i)) (record { lowest = b .privilege; count = b .forbidden })
+      → PassesOn ws marks b

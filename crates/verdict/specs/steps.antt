@@ -1,3 +1,4 @@
 -- What the building blocks do, step by step; a reader of the promises needs none of it.
-pub mod Lows
+pub mod Spoils
+pub mod Tallies
 pub mod Visits

@@ -1,97 +1,106 @@
-// What is forbidden below each type, in one pass along the order in which every type comes after its children, and kept: a number for each
-// type. Only this file knows that 65,535 stands for none. Contracts cite specs/Below, and specs/steps/Lows for the parts.
-ghost use mathlib.Core.Path.{_≡_};
+// What is forbidden below a type: the lowest privilege, and how many there are. Contracts cite specs/Below, and specs/steps/Tallies for the parts.
 ghost use Prim.Native.Nat.{ℕ, _≤_, _<_};
-ghost use lib.ListN.{length, getD};
+ghost use lib.ListN.{length};
+ghost use Rattle.table.specs.HowMany.{HowMany, Tallied};
+ghost use Rattle.table.specs.Privilege.{privileges};
 ghost use Rattle.table.specs.Words.{types};
-ghost use Rattle.table.specs.steps.Order.{BottomUp};
-ghost use Rattle.policy.specs.Marks.{Policy};
-ghost use Rattle.verdict.specs.Below.{ForbiddenBelow};
-ghost use Rattle.verdict.specs.steps.Lows.{ForbiddenOwn, Low, Range, Least, Lows, Kept, FoundBelow};
-use policy::marks::none_above;
-use table::Found;
+ghost use Rattle.policy.specs.Marks.{Forbidden, Policy};
+ghost use Rattle.verdict.specs.Below.{ForbiddenTally};
+ghost use Rattle.verdict.specs.steps.Spoils.{Range};
+ghost use Rattle.verdict.specs.steps.Tallies.{LowestFrom, Added, ForbiddenAmong};
+use table::below::mark_below;
 use table::privilege::gap_of;
 use table::privilege::privileges_in;
-use table::rule::children;
 use table::words::types;
-use table::words::word_at;
 
-// The lowest forbidden privilege from one number up to another, or 65,535.
-fn forbidden_from(marks: &[u8], from: usize, until: usize) -> u16
+// The lowest of some privileges, and how many they are; 0 and 0 for none.
+pub struct Tally {
+    pub lowest: usize,
+    pub count: usize,
+}
+
+// How many privileges from one number up to another are forbidden. Counted in 16 bits, eight at a time.
+fn count_forbidden(marks: &[u8], from: usize, until: usize) -> usize
     requires { ⌜ (from ≤ until) × (until ≤ length (now marks)) × (until ≤ 4096) ⌝ }
-    ensures { λ r. ⌜ Low (Range (now (marks .entry)) from until) r ⌝ }
+    ensures { λ r. ⌜ HowMany (Range (now (marks .entry)) from until) until r ⌝ }
 {
-    if none_above(&marks[from..until], 1) {
-        return 65535;
-    }
+    let mut count = 0u16;
     let mut p = from;
     while p < until {
         if marks[p] == 2 {
-            return p as u16;
+            count += 1;
         }
         p += 1;
     }
-    65535
+    count as usize
 }
 
-// Writes for each type the lowest forbidden privilege of its own, or 65,535.
-fn own_lows(words: &[u16], marks: &[u8], low: &mut [u16; 256])
-    requires { ⌜ Policy (now words) (now marks) × (length (now low) ≡ 256) ⌝ }
-    ensures { λ _. ⌜ Lows (now (words .entry)) (ForbiddenOwn (now (words .entry)) (now (marks .entry))) (now (low .entry)) (now (low .exit)) ⌝ }
+// The lowest forbidden privilege from a number on, where there is one.
+fn lowest_from(marks: &[u8], from: usize) -> usize
+    requires { ⌜ ((p : ℕ) × (from ≤ p) × Forbidden (now marks) p) ⌝ }
+    ensures { λ r. ⌜ LowestFrom (now (marks .entry)) from r ⌝ }
+{
+    let mut p = from;
+    while marks[p] != 2 {
+        p += 1;
+    }
+    p
+}
+
+// Adds what is forbidden in a stretch of privileges, if its flag is 1, to what was counted before it.
+fn add_stretch(marks: &[u8], from: usize, until: usize, flag: u8, before: Tally) -> Tally
+    requires { ⌜ (from ≤ until) × (until ≤ length (now marks)) × (until ≤ 4096) × (before .count ≤ 4096) ⌝ }
+    ensures { λ r. ⌜ Added (now (marks .entry)) from until flag before r ⌝ }
+{
+    if flag != 1 {
+        return before;
+    }
+    let more = count_forbidden(marks, from, until);
+    if more == 0 {
+        return before;
+    }
+    let count = before.count;
+    if count == 0 {
+        return Tally {
+            lowest: lowest_from(marks, from),
+            count: more,
+        };
+    }
+    Tally {
+        lowest: before.lowest,
+        count: count + more,
+    }
+}
+
+// What is forbidden in the types that have the flag 1.
+fn tally_flagged(words: &[u16], marks: &[u8], flags: &[u8; 256]) -> Tally
+    requires { ⌜ Policy (now words) (now marks) ⌝ }
+    ensures { λ r. ⌜ Tallied (ForbiddenAmong (now (words .entry)) (now (marks .entry)) (now (flags .entry))) (privileges (now (words .entry))) (r .lowest) (r .count) ⌝ }
 {
     let gap = gap_of(words);
     let e = types(words);
+    let mut tally = Tally {
+        lowest: 0,
+        count: 0,
+    };
     let mut first = 0;
     let mut x = 0;
     while x < e {
         let next = first + privileges_in(words, x, gap);
-        low[x] = forbidden_from(marks, first, next);
+        tally = add_stretch(marks, first, next, flags[x], tally);
         first = next;
         x += 1;
     }
+    tally
 }
 
-// The least of a number and those of the children.
-fn least_of(kids: &[u16], low: &[u16; 256], own: u16) -> u16
-    requires { ⌜ ((i : ℕ) → i < length (now kids) → getD (now kids) i 0 < 256) ⌝ }
-    ensures { λ r. ⌜ Least (length (now (kids .entry))) (now (kids .entry)) (now (low .entry)) own r ⌝ }
+// What is forbidden below type y: the lowest privilege and how many there are, each counted once, or 0 and 0.
+pub fn forbidden_below(words: &[u16], marks: &[u8], y: usize) -> Tally
+    requires { ⌜ Policy (now words) (now marks) × (y < types (now words)) ⌝ }
+    ensures { λ r. ⌜ ForbiddenTally (now (words .entry)) (now (marks .entry)) y r ⌝ }
 {
-    let mut least = own;
-    let mut i = 0;
-    while i < kids.len() {
-        let child = low[word_at(kids, i)];
-        if child < least {
-            least = child;
-        }
-        i += 1;
-    }
-    least
-}
-
-// Writes for each type the lowest forbidden privilege below it, or 65,535. The order holds each type after its children.
-pub fn forbidden_lows(words: &[u16], marks: &[u8], order: &[u8; 256], low: &mut [u16; 256])
-    requires { ⌜ Policy (now words) (now marks) × BottomUp (now words) (now order) × (length (now low) ≡ 256) ⌝ }
-    ensures { λ _. ⌜ Lows (now (words .entry)) (ForbiddenBelow (now (words .entry)) (now (marks .entry))) (now (low .entry)) (now (low .exit)) ⌝ }
-{
-    let e = types(words);
-    own_lows(words, marks, low);
-    let mut k = 0;
-    while k < e {
-        let x = order[k] as usize;
-        let own = low[x];
-        low[x] = least_of(children(words, x), low, own);
-        k += 1;
-    }
-}
-
-// What is kept for type y: a privilege that is forbidden below it, or nothing.
-pub fn forbidden_below(low: &[u16; 256], y: usize) -> Found
-    requires { ⌜ y < 256 ⌝ }
-    ensures { λ r. ⌜ FoundBelow (Kept (now (low .entry))) y r ⌝ }
-{
-    let lowest = low[y];
-    if lowest < 65535 {
-        return Found::At(lowest as usize);
-    }
-    Found::Nothing
+    let from = [y as u16; 1];
+    let mut flags = [0u8; 256];
+    mark_below(words, &from, &mut flags);
+    tally_flagged(words, marks, &flags)
 }

@@ -1,38 +1,45 @@
-// The first breach of a policy, type by type, by the numbers that are kept for what is forbidden below each type: they may be any. Contracts
-// cite specs/Breaches, and specs/steps/Visits and specs/steps/Lows for the parts.
+// The first breach of a policy, searched for type by type, by the flags that tell below which types something is forbidden: they may be any. What
+// breaks it there is asked once it is found. Contracts cite specs/Breaches, and specs/steps/Visits and specs/steps/Spoils for the parts.
 ghost use mathlib.Core.Path.{_≡_};
-ghost use Prim.Native.Nat.{_<_};
+ghost use mathlib.Core.Bool.{true};
+ghost use Prim.Native.Nat.{ℕ, _<_};
+ghost use lib.ListN.{length, getD};
 ghost use Rattle.table.specs.Words.{types};
 ghost use Rattle.table.specs.Rule.{IsChoice, IsStar, countOf};
-ghost use Rattle.table.specs.Privilege.{firstPrivilege};
+ghost use Rattle.table.specs.HowMany.{Tallied};
+ghost use Rattle.table.specs.Privilege.{firstPrivilege, privileges};
 ghost use Rattle.table.specs.steps.Numbering.{NumberedAs, Small};
 ghost use Rattle.table.specs.steps.Found.{Tells};
 ghost use Rattle.table.specs.steps.Order.{BottomUp};
 ghost use Rattle.policy.specs.Marks.{Allowed, Policy};
 ghost use Rattle.policy.specs.Reached.{Reached};
 ghost use Rattle.policy.specs.Renewed.{Renewed, Barred};
-ghost use Rattle.policy.specs.steps.Squares.{Square, ForbiddenIn};
-ghost use Rattle.verdict.specs.Breaches.{noBreach, BreachBy, Verdict};
-ghost use Rattle.verdict.specs.steps.Lows.{Kept};
-ghost use Rattle.verdict.specs.steps.Visits.{brokenStar, Visited, Broken, FirstPair, Searched, BreachAt, CycleAt};
+ghost use Rattle.policy.specs.steps.Squares.{marked, Square, ForbiddenIn};
+ghost use Rattle.verdict.specs.Below.{ForbiddenBelow};
+ghost use Rattle.verdict.specs.Breaches.{noBreach, StarBroken, BreachBy, IsBreach, Verdict};
+ghost use Rattle.verdict.specs.steps.Spoils.{Flagged};
+ghost use Rattle.verdict.specs.steps.Visits.{noSpot, starSpot, Visited, Broken, FirstPair, Searched, BreachAt, CycleAt};
 use super::Breach;
 use super::Condition;
+use super::Spot;
+use super::below::Tally;
 use super::below::forbidden_below;
-use super::below::forbidden_lows;
+use super::spoilt::flag_spoilt;
 use policy::reach::reached_by;
 use policy::renew::Renewal;
 use policy::renew::renewal_of;
 use policy::rows::first_shared;
 use policy::rows::leads;
 use policy::rows::read_rows;
-use table::Found;
 use table::privilege::Numbering;
 use table::privilege::exchange;
+use table::privilege::first_privilege;
 use table::privilege::gap_of;
 use table::privilege::numbers_at;
 use table::privilege::privileges_in;
 use table::privilege::replacement;
 use table::rule::Rule;
+use table::rule::child_at;
 use table::rule::children;
 use table::rule::rule_at;
 use table::words::types;
@@ -44,7 +51,7 @@ pub enum Pair {
     Nothing,
 }
 
-// Five zeros.
+// No breach: all 0.
 pub fn no_breach() -> Breach
     ensures { λ r. ⌜ r ≡ noBreach ⌝ }
 {
@@ -54,6 +61,19 @@ pub fn no_breach() -> Breach
         i: 0,
         j: 0,
         privilege: 0,
+        forbidden: 0,
+    }
+}
+
+// No spot: four zeros.
+fn no_spot() -> Spot
+    ensures { λ r. ⌜ r ≡ noSpot ⌝ }
+{
+    Spot {
+        condition: Condition::None,
+        element: 0,
+        i: 0,
+        j: 0,
     }
 }
 
@@ -97,143 +117,147 @@ fn first_broken(marks: &[u8], n: Numbering, square: &[u16; 16], forbidden: &[u16
     found
 }
 
-// A breach of condition 1 at the star x.
-fn star_broken(x: usize, privilege: usize) -> Breach
-    ensures { λ r. ⌜ r ≡ brokenStar x privilege ⌝ }
+// Where a breach of condition 1 at the star x is.
+fn star_spot(x: usize) -> Spot
+    ensures { λ r. ⌜ r ≡ starSpot x ⌝ }
 {
-    Breach {
+    Spot {
         condition: Condition::InsertDelete,
         element: x,
         i: 0,
         j: 0,
-        privilege: privilege,
     }
 }
 
 // The first breach at the star x, whose child can be renewed, and whose exchange is not the one that breaks it.
-fn renewed_breach(words: &[u16], marks: &[u8], low: &[u16; 256], x: usize, kids: &[u16]) -> Breach
+fn renewed_breach(words: &[u16], marks: &[u8], flags: &[u8; 256], x: usize, kids: &[u16]) -> Spot
     requires { ⌜ Visited (now words) (now marks) x (now kids) × IsStar (now words) x × (Barred (now words) (now marks) x → ⊥) × Renewed (now words) (Allowed (now marks)) x ⌝ }
-    ensures { λ r. ⌜ Searched (BreachAt (now (words .entry)) (now (marks .entry)) (Kept (now (low .entry))) x) r ⌝ }
+    ensures { λ r. ⌜ Searched (BreachAt (now (words .entry)) (now (marks .entry)) (Flagged (now (flags .entry))) x) r ⌝ }
 {
-    let found = forbidden_below(low, word_at(kids, 0));
-    if let Found::At(privilege) = found {
-        return star_broken(x, privilege);
+    if flags[word_at(kids, 0)] == 1 {
+        return star_spot(x);
     }
-    no_breach()
+    no_spot()
 }
 
 // The first breach at the star x.
 pub fn star_breach(
     words: &[u16],
     marks: &[u8],
-    low: &[u16; 256],
+    flags: &[u8; 256],
     x: usize,
     kids: &[u16],
     n: Numbering,
-) -> Breach
+) -> Spot
     requires { ⌜ Visited (now words) (now marks) x (now kids) × NumberedAs (now words) x n × IsStar (now words) x ⌝ }
-    ensures { λ r. ⌜ Searched (BreachAt (now (words .entry)) (now (marks .entry)) (Kept (now (low .entry))) x) r ⌝ }
+    ensures { λ r. ⌜ Searched (BreachAt (now (words .entry)) (now (marks .entry)) (Flagged (now (flags .entry))) x) r ⌝ }
 {
     let renewal = renewal_of(marks, n);
     match renewal {
-        Renewal::Shut => no_breach(),
-        Renewal::Barred => star_broken(x, exchange(n)),
-        Renewal::Open => renewed_breach(words, marks, low, x, kids),
+        Renewal::Shut => no_spot(),
+        Renewal::Barred => star_spot(x),
+        Renewal::Open => renewed_breach(words, marks, flags, x, kids),
     }
+}
+
+// Does the square lead from i to i, and is something forbidden below the child at i?
+fn is_spoilt(flags: &[u8; 256], kids: &[u16], square: &[u16; 16], i: usize) -> bool
+    requires { ⌜ (i < 16) × (i < length (now kids)) × (getD (now kids) i 0 < 256) ⌝ }
+    ensures { λ r. ⌜ Tells ((marked (now (square .entry)) i i ≡ true) × Flagged (now (flags .entry)) (getD (now (kids .entry)) i 0) 0) r ⌝ }
+{
+    if !leads(square, i, i) {
+        return false;
+    }
+    flags[word_at(kids, i)] == 1
 }
 
 // The first breach of condition 3 at the choice x, whose square tells what is reached.
 fn cycle_breach(
     words: &[u16],
     marks: &[u8],
-    low: &[u16; 256],
+    flags: &[u8; 256],
     x: usize,
     kids: &[u16],
     square: &[u16; 16],
-) -> Breach
+) -> Spot
     requires { ⌜ Visited (now words) (now marks) x (now kids) × IsChoice (now words) x × Square (countOf (now words) x) (Reached (now words) (Allowed (now marks)) x) (now square) ⌝ }
-    ensures { λ r. ⌜ Searched (CycleAt (now (words .entry)) (now (marks .entry)) (Kept (now (low .entry))) x) r ⌝ }
+    ensures { λ r. ⌜ Searched (CycleAt (now (words .entry)) (now (marks .entry)) (Flagged (now (flags .entry))) x) r ⌝ }
 {
     let mut i = 0;
     while i < kids.len() {
-        if leads(square, i, i) {
-            let found = forbidden_below(low, word_at(kids, i));
-            if let Found::At(privilege) = found {
-                return Breach {
-                    condition: Condition::Cycle,
-                    element: x,
-                    i: i,
-                    j: i,
-                    privilege: privilege,
-                };
-            }
+        if is_spoilt(flags, kids, square, i) {
+            return Spot {
+                condition: Condition::Cycle,
+                element: x,
+                i: i,
+                j: i,
+            };
         }
         i += 1;
     }
-    no_breach()
+    no_spot()
 }
 
 // The first breach at the choice x, whose squares tell what is reached and what is forbidden: a chain before a cycle.
 pub fn breach_in(
     words: &[u16],
     marks: &[u8],
-    low: &[u16; 256],
+    flags: &[u8; 256],
     x: usize,
     kids: &[u16],
     n: Numbering,
     square: &[u16; 16],
     forbidden: &[u16; 16],
-) -> Breach
+) -> Spot
     requires { ⌜ Visited (now words) (now marks) x (now kids) × NumberedAs (now words) x n × IsChoice (now words) x × Square (countOf (now words) x) (Reached (now words) (Allowed (now marks)) x) (now square) × Square (n .count) (ForbiddenIn (now marks) n) (now forbidden) ⌝ }
-    ensures { λ r. ⌜ Searched (BreachAt (now (words .entry)) (now (marks .entry)) (Kept (now (low .entry))) x) r ⌝ }
+    ensures { λ r. ⌜ Searched (BreachAt (now (words .entry)) (now (marks .entry)) (Flagged (now (flags .entry))) x) r ⌝ }
 {
     let chain = first_broken(marks, n, square, forbidden);
     if let Pair::At(i, j) = chain {
-        return Breach {
+        return Spot {
             condition: Condition::Chain,
             element: x,
             i: i,
             j: j,
-            privilege: replacement(n, i, j),
         };
     }
-    cycle_breach(words, marks, low, x, kids, square)
+    cycle_breach(words, marks, flags, x, kids, square)
 }
 
 // The first breach at the choice x.
 fn choice_breach(
     words: &[u16],
     marks: &[u8],
-    low: &[u16; 256],
+    flags: &[u8; 256],
     x: usize,
     kids: &[u16],
     n: Numbering,
-) -> Breach
+) -> Spot
     requires { ⌜ Visited (now words) (now marks) x (now kids) × NumberedAs (now words) x n × IsChoice (now words) x ⌝ }
-    ensures { λ r. ⌜ Searched (BreachAt (now (words .entry)) (now (marks .entry)) (Kept (now (low .entry))) x) r ⌝ }
+    ensures { λ r. ⌜ Searched (BreachAt (now (words .entry)) (now (marks .entry)) (Flagged (now (flags .entry))) x) r ⌝ }
 {
     let mut allowed = [0u16; 16];
     let mut forbidden = [0u16; 16];
     read_rows(marks, n, &mut allowed, &mut forbidden);
     let square = reached_by(words, marks, x, n, allowed);
-    breach_in(words, marks, low, x, kids, n, &square, &forbidden)
+    breach_in(words, marks, flags, x, kids, n, &square, &forbidden)
 }
 
 // The first breach at type x, whose first privilege is given.
-fn breach_at(words: &[u16], marks: &[u8], low: &[u16; 256], x: usize, first: usize) -> Breach
+fn breach_at(words: &[u16], marks: &[u8], flags: &[u8; 256], x: usize, first: usize) -> Spot
     requires { ⌜ Policy (now words) (now marks) × (x < types (now words)) × (first ≡ firstPrivilege (now words) x) ⌝ }
-    ensures { λ r. ⌜ Searched (BreachAt (now (words .entry)) (now (marks .entry)) (Kept (now (low .entry))) x) r ⌝ }
+    ensures { λ r. ⌜ Searched (BreachAt (now (words .entry)) (now (marks .entry)) (Flagged (now (flags .entry))) x) r ⌝ }
 {
     let rule = rule_at(words, x);
     match rule {
-        Rule::Empty => no_breach(),
-        Rule::Text => no_breach(),
-        Rule::Sequence { first: _, count: _ } => no_breach(),
+        Rule::Empty => no_spot(),
+        Rule::Text => no_spot(),
+        Rule::Sequence { first: _, count: _ } => no_spot(),
         Rule::Choice { first: _, count: _ } => {
             choice_breach(
                 words,
                 marks,
-                low,
+                flags,
                 x,
                 children(words, x),
                 numbers_at(words, x, first),
@@ -243,7 +267,7 @@ fn breach_at(words: &[u16], marks: &[u8], low: &[u16; 256], x: usize, first: usi
             star_breach(
                 words,
                 marks,
-                low,
+                flags,
                 x,
                 children(words, x),
                 numbers_at(words, x, first),
@@ -252,34 +276,84 @@ fn breach_at(words: &[u16], marks: &[u8], low: &[u16; 256], x: usize, first: usi
     }
 }
 
-// The first breach of a policy by the kept numbers, or five zeros where it has none.
-fn breach_by(words: &[u16], marks: &[u8], low: &[u16; 256]) -> Breach
+// Where the first breach of a policy by the flags is.
+fn first_spot(words: &[u16], marks: &[u8], flags: &[u8; 256]) -> Spot
     requires { ⌜ Policy (now words) (now marks) ⌝ }
-    ensures { λ r. ⌜ Searched (BreachBy (now (words .entry)) (now (marks .entry)) (Kept (now (low .entry)))) r ⌝ }
+    ensures { λ r. ⌜ Searched (BreachBy (now (words .entry)) (now (marks .entry)) (Flagged (now (flags .entry)))) r ⌝ }
 {
     let gap = gap_of(words);
     let e = types(words);
     let mut first = 0;
     let mut x = 0;
     while x < e {
-        let breach = breach_at(words, marks, low, x, first);
-        let condition = breach.condition;
+        let spot = breach_at(words, marks, flags, x, first);
+        let condition = spot.condition;
         if let Condition::None = condition {
             first += privileges_in(words, x, gap);
             x += 1;
         } else {
-            return breach;
+            return spot;
         }
     }
-    no_breach()
+    no_spot()
 }
 
-// The first breach of a policy, or five zeros where it is clean. The order holds each type after its children.
+// What breaks the star x: its exchange, or else what is forbidden below its child.
+fn star_tally(words: &[u16], marks: &[u8], x: usize, n: Numbering) -> Tally
+    requires { ⌜ Policy (now words) (now marks) × NumberedAs (now words) x n × IsStar (now words) x × ((p : ℕ) × StarBroken (now words) (now marks) (ForbiddenBelow (now words) (now marks)) x p) ⌝ }
+    ensures { λ r. ⌜ Tallied (StarBroken (now (words .entry)) (now (marks .entry)) (ForbiddenBelow (now (words .entry)) (now (marks .entry))) x) (privileges (now (words .entry))) (r .lowest) (r .count) ⌝ }
+{
+    let renewal = renewal_of(marks, n);
+    if let Renewal::Barred = renewal {
+        return Tally {
+            lowest: exchange(n),
+            count: 1,
+        };
+    }
+    forbidden_below(words, marks, child_at(words, x, 0))
+}
+
+// What breaks a spot: the lowest privilege and how many there are.
+fn tally_at(words: &[u16], marks: &[u8], spot: Spot) -> Tally
+    requires { ⌜ Policy (now words) (now marks) × ((p : ℕ) × IsBreach (now words) (now marks) spot p) ⌝ }
+    ensures { λ r. ⌜ Tallied (IsBreach (now (words .entry)) (now (marks .entry)) spot) (privileges (now (words .entry))) (r .lowest) (r .count) ⌝ }
+{
+    let x = spot.element;
+    let n = numbers_at(words, x, first_privilege(words, x));
+    let condition = spot.condition;
+    match condition {
+        Condition::None => Tally {
+            lowest: 0,
+            count: 0,
+        },
+        Condition::InsertDelete => star_tally(words, marks, x, n),
+        Condition::Chain => Tally {
+            lowest: replacement(n, spot.i, spot.j),
+            count: 1,
+        },
+        Condition::Cycle => forbidden_below(words, marks, child_at(words, x, spot.i)),
+    }
+}
+
+// The first breach of a policy, or none where it is clean. The order holds each type after its children.
 pub fn first_breach(words: &[u16], marks: &[u8], order: &[u8; 256]) -> Breach
     requires { ⌜ Policy (now words) (now marks) × BottomUp (now words) (now order) ⌝ }
     ensures { λ r. ⌜ Verdict (now (words .entry)) (now (marks .entry)) r ⌝ }
 {
-    let mut low = [0u16; 256];
-    forbidden_lows(words, marks, order, &mut low);
-    breach_by(words, marks, &low)
+    let mut flags = [0u8; 256];
+    flag_spoilt(words, marks, order, &mut flags);
+    let spot = first_spot(words, marks, &flags);
+    let condition = spot.condition;
+    if let Condition::None = condition {
+        return no_breach();
+    }
+    let tally = tally_at(words, marks, spot);
+    Breach {
+        condition: condition,
+        element: spot.element,
+        i: spot.i,
+        j: spot.j,
+        privilege: tally.lowest,
+        forbidden: tally.count,
+    }
 }

@@ -6,6 +6,7 @@ ghost use Rattle.verdict.specs.Answers.{refusal, done, JudgeAnswer};
 
 pub mod below;
 pub mod breaches;
+pub mod spoilt;
 
 use policy::marks::check_policy;
 
@@ -29,13 +30,22 @@ pub fn number_of(condition: Condition) -> usize
     }
 }
 
-// A breach: the condition, the type at which it is broken, the two positions there, and the forbidden privilege. All 0 where there is none.
+// Where a breach is: the condition, the type at which it is broken, and the two positions there. All 0 where there is none.
+pub struct Spot {
+    pub condition: Condition,
+    pub element: usize,
+    pub i: usize,
+    pub j: usize,
+}
+
+// A breach: where it is, the lowest forbidden privilege that breaks the condition there, and how many do. All 0 where there is none.
 pub struct Breach {
     pub condition: Condition,
     pub element: usize,
     pub i: usize,
     pub j: usize,
     pub privilege: usize,
+    pub forbidden: usize,
 }
 
 // What a call answers.
@@ -46,7 +56,7 @@ pub struct Answer {
     pub breach: Breach,
 }
 
-// A refusal: count 0, five zeros.
+// A refusal: count 0, no breach.
 pub fn refused(number: u8, place: usize) -> Answer
     ensures { λ r. ⌜ r ≡ refusal number place ⌝ }
 {
@@ -68,7 +78,7 @@ pub fn done_with(count: usize) -> Answer
     answer
 }
 
-// Judges a policy, whatever is lent: refuses with 1 to 11 or 19, or answers 0 with the first breach, five zeros where there is none.
+// Judges a policy, whatever is lent: refuses with 1 to 11 or 19, or answers 0 with the first breach, none where it is clean.
 pub fn judge_policy(words: &[u16], marks: &[u8]) -> Answer
     ensures { λ r. ⌜ JudgeAnswer (now (words .entry)) (now (marks .entry)) r ⌝ }
 {

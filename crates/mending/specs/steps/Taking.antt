@@ -14,15 +14,16 @@ use Rattle.table.specs.declared.Found.the-variants.{At, Nothing}
 use Rattle.policy.specs.Marks.{Policy}
 use Rattle.policy.specs.steps.Squares.{marked, StepIn}
 use Rattle.verdict.specs.Below.{ForbiddenBelow}
-use Rattle.verdict.specs.Breaches.{Spot, IsBreach, FirstSpot}
-use Rattle.verdict.specs.steps.Lows.{Kept, Agree}
+use Rattle.verdict.specs.Breaches.{IsBreach, FirstSpot}
+use Rattle.verdict.specs.steps.Spoils.{Flagged, Agree}
+use Rattle.verdict.specs.declared.Spot.{Spot}
 use Rattle.verdict.specs.declared.breaches.Pair.{Pair}
 use Rattle.verdict.specs.declared.breaches.Pair.the-variants as Pair
 use Rattle.mending.specs.Mends.{Takes}
 
--- the kept numbers tell of which types something is forbidden below them
+-- the flags tell below which types something is forbidden
 abbrev pub Spoilt : List ℕ → List ℕ → List ℕ → Type 0
-Spoilt ws marks low = Agree ws (Kept low) (ForbiddenBelow ws marks)
+Spoilt ws marks flags = Agree ws (Flagged flags) (ForbiddenBelow ws marks)
 
 -- the rule has been followed from m to n: c privileges were taken, each at what was the first spot
 pub data Follows (ws : List ℕ) : List ℕ → List ℕ → ℕ → Type 0 where
@@ -34,19 +35,19 @@ abbrev pub CleanUpTo : List ℕ → List ℕ → ℕ → Type 0
 CleanUpTo ws marks x = (s : Spot) (p : ℕ) → IsBreach ws marks s p → x ≤ s .element
 
 -- what is known where the mend visits type x
-pub record Visited (ws m low : List ℕ) (x : ℕ) (kids : List ℕ) (n : Numbering) : Type 0 where
+pub record Visited (ws m flags : List ℕ) (x : ℕ) (kids : List ℕ) (n : Numbering) : Type 0 where
   pub policy : Policy ws m
-  pub spoilt : Spoilt ws m low
+  pub spoilt : Spoilt ws m flags
   pub type : x < types ws
   pub clean : CleanUpTo ws m x
   pub kids-are : kids ≡ childrenAt ws x
   pub numbered : NumberedAs ws x n
 
 -- what the mend of type x has done: c privileges taken by the rule, and the type has no breach
-pub record Cleaned (ws low : List ℕ) (x : ℕ) (old new : List ℕ) (c : ℕ) : Type 0 where
+pub record Cleaned (ws flags : List ℕ) (x : ℕ) (old new : List ℕ) (c : ℕ) : Type 0 where
   pub follows : Follows ws old new c
   pub policy : Policy ws new
-  pub spoilt : Spoilt ws new low
+  pub spoilt : Spoilt ws new flags
   pub clean : CleanUpTo ws new (x + 1)
 
 -- by the square, k leads from i to j

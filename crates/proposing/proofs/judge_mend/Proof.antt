@@ -1,9 +1,7 @@
 -- The checks in their order; then the proposed policy gets its verdict. Assumes nothing.
 use Rattle.proposing.specs.Answers.{AllKept, refused, unfit, changed, broken, accepted}
-use Rattle.proposing.specs.Proposals.{changes}
 use Rattle.verdict.proofs.Firsts.{verdict-clean, verdict-broken, no-tag}
 use Rattle.policy.proofs.Policies.{policy-refused, policy-fits, marks-refused, marks-fit}
-use Rattle.verdict.specs.Answers.{done}
 use Rattle.policy.specs.Marks.{Fit, Policy}
 use Rattle.table.specs.steps.Order.{BottomUp}
 use Rattle.table.specs.Privilege.{privileges}
@@ -12,7 +10,7 @@ use lib.ListN.{length}
 use Prim.Native.Nat.{_≤_}
 use denote.Ref.{now}
 use native.Mathlib.Omega.{arith}
-use mathlib.Core.Path.{_≡_, refl, ap, _∙_}
+use mathlib.Core.Path.{_≡_, refl}
 use borrow.Author.Needs.{needs}
 use Rattle.proposing.proofs.judge_mend.Statement.{statement}
 use Rattle.proposing.proofs.judge_mend.Tie as tie
@@ -100,10 +98,9 @@ returns-4 : tie.Need-returns-4
 returns-4 c =
     let first = c .before .before .before .before in
     let kept = first .before .before in
-    let start = kept .before .before .before .before .before .before .before .before .before .before .before .before in
     let p = policy (kept .before .before .before .before .before) in
     accepted (p .0) (fit (kept .before .before .before)) (all-kept kept) (verdict-clean _ _ (first .first-breach .ensures) (c .before .before .enum-told2 .given .1))
-    (c .done-with .ensures ∙ ap done (c .before .count-changes .ensures ∙ ap (changes (now (start .args .marks)) (now (start .args .proposed))) (p .1)))
+    (rw (p .1) at (c .before .count-changes .ensures)) (c .done-with .ensures)
 
 returns-5 : tie.Need-returns-5
 returns-5 c =

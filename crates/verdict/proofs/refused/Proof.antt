@@ -1,4 +1,4 @@
--- Five zeros. Assumes nothing.
+-- No breach. Assumes nothing.
 use borrow.Author.Needs.{needs}
 use Rattle.verdict.proofs.refused.Statement.{statement}
 use Rattle.verdict.proofs.refused.Tie as tie

@@ -7,10 +7,10 @@ use Rattle.table.specs.Words.{types}
 use Rattle.table.specs.Rule.{childrenAt}
 use Rattle.table.specs.declared.privilege.Numbering.{Numbering}
 use Rattle.policy.specs.Marks.{Policy}
-use Rattle.verdict.specs.Breaches.{noBreach, Spot, spotOf, CycleBreach, BreachBy, Lex, key}
+use Rattle.verdict.specs.Breaches.{CycleBreach, BreachBy, FirstSpot}
 use Rattle.policy.specs.steps.Squares.{marked, ForbiddenIn}
-use Rattle.verdict.specs.declared.Breach.{Breach}
-use Rattle.verdict.specs.declared.Condition.the-variants.{InsertDelete, Cycle}
+use Rattle.verdict.specs.declared.Spot.{Spot}
+use Rattle.verdict.specs.declared.Condition.the-variants.{None, InsertDelete, Cycle}
 use Rattle.verdict.specs.declared.breaches.Pair.{Pair}
 use Rattle.verdict.specs.declared.breaches.Pair.the-variants.{At, Nothing}
 
@@ -20,9 +20,13 @@ pub record Visited (ws marks : List ℕ) (x : ℕ) (kids : List ℕ) : Type 0 wh
   pub type : x < types ws
   pub kids-are : kids ≡ childrenAt ws x
 
--- a breach of condition 1
-abbrev pub brokenStar : ℕ → ℕ → Breach
-brokenStar x p = record { condition = InsertDelete; element = x; i = 0; j = 0; privilege = p }
+-- no spot: four zeros
+abbrev pub noSpot : Spot
+noSpot = record { condition = None; element = 0; i = 0; j = 0 }
+
+-- a breach of condition 1 is at one spot
+abbrev pub starSpot : ℕ → Spot
+starSpot x = record { condition = InsertDelete; element = x; i = 0; j = 0 }
 
 -- the square leads from i to j, and i must not be replaced by j
 pub record Broken (marks : List ℕ) (n : Numbering) (square : List ℕ) (i j : ℕ) : Type 0 where
@@ -41,10 +45,10 @@ abbrev pub FirstPair : (ℕ → ℕ → Type 0) → ℕ → Pair → Type 0
 FirstPair P n (At i j) = FirstAt P n i j
 FirstPair P n Nothing = (a : ℕ) → a < n → (b : ℕ) → b < n → ¬ P a b
 
--- what a search finds: a breach at the first spot, or five zeros where there is none; Breaks s p says that p breaks the spot s
-pub data Searched (Breaks : Spot → ℕ → Type 0) (b : Breach) : Type 0 where
-  none : b ≡ noBreach → ((s : Spot) (p : ℕ) → ¬ Breaks s p) → Searched Breaks b
-  first : Breaks (spotOf b) (b .privilege) → ((s : Spot) (p : ℕ) → Breaks s p → ¬ Lex (key s) (key (spotOf b))) → Searched Breaks b
+-- what a search finds: the first spot that is broken, or none; Breaks s p says that p breaks the spot s
+pub data Searched (Breaks : Spot → ℕ → Type 0) (s : Spot) : Type 0 where
+  none : s ≡ noSpot → ((t : Spot) (p : ℕ) → ¬ Breaks t p) → Searched Breaks s
+  first : FirstSpot Breaks s → Searched Breaks s
 
 -- p breaks the spot s, which is at type x
 pub record BreachAt (ws marks : List ℕ) (B : ℕ → ℕ → Type 0) (x : ℕ) (s : Spot) (p : ℕ) : Type 0 where

@@ -3,7 +3,7 @@ use borrow.Author.Needs.{needs}
 use Rattle.mending.proofs.Staying.{Mending, mending-on, mending-done, mending-few}
 use Rattle.mending.specs.steps.Taking.{start}
 use Rattle.verdict.proofs.Firsts.{clean-start}
-use Rattle.verdict.proofs.Kept.{right-agree}
+use Rattle.verdict.proofs.Spoils.{flags-agree}
 use Rattle.table.proofs.Facts.{facts, has-format, has-record}
 use Rattle.table.proofs.Privileges.{first-start, first-next, first-within}
 use Rattle.table.specs.Privilege.{firstPrivilege}
@@ -16,10 +16,10 @@ use Rattle.mending.proofs.mend_types.mend_all.Statement.{statement}
 use Rattle.mending.proofs.mend_types.mend_all.Tie as tie
 
 abbrev Inv-loop : tie.InvT-loop
-Inv-loop words order m₀ low gap e count₀ first₀ x₀ m count first x = (x ≤ e) × (first ≡ firstPrivilege words x) × Mending words low x m₀ m count
+Inv-loop words order m₀ flags gap e count₀ first₀ x₀ m count first x = (x ≤ e) × (first ≡ firstPrivilege words x) × Mending words flags x m₀ m count
 
 abbrev μ-loop : tie.MeasureT-loop
-μ-loop words order m₀ low gap e count₀ first₀ x₀ m count first x = e - x
+μ-loop words order m₀ flags gap e count₀ first₀ x₀ m count first x = e - x
 
 -- the loop stands at a type, and goes on from its mend
 is-type : (c : tie.In-loop Inv-loop μ-loop) → c .before .loop .x < types (now (c .before .before .before .before .before .before .before .before .before .args .words))
@@ -27,11 +27,11 @@ is-type c = omega (arith, c .loop-test .taken, c .before .before .types .ensures
 
 onward : (c : tie.After-mend-type Inv-loop μ-loop)
     → let at = c .before .before .before .before .before in let begin = at .before .before .before .before .before .before .before .before in
-    Mending (now (begin .args .words)) (at .before .before .before .forbidden-lows .last .1 .1 .1 .0) (at .loop .x + 1) (now (begin .args .m)) (c .mend-type .last .1 .0) (at .loop .count + c .mend-type .result)
+    Mending (now (begin .args .words)) (at .before .before .before .flag-spoilt .last .1 .1 .1 .0) (at .loop .x + 1) (now (begin .args .m)) (c .mend-type .last .1 .0) (at .loop .count + c .mend-type .result)
 onward c = mending-on (c .before .before .before .before .before .loop .inv .2) (c .mend-type .ensures)
 
-forbidden-lows-requires : tie.Need-forbidden-lows-requires Inv-loop μ-loop
-forbidden-lows-requires c κs = let pre = c .before .before .before .before .pre in (pre .0, pre .1, refl)
+flag-spoilt-requires : tie.Need-flag-spoilt-requires Inv-loop μ-loop
+flag-spoilt-requires c κs = let pre = c .before .before .before .before .pre in (pre .0, pre .1, refl)
 
 gap-of-requires : tie.Need-gap-of-requires Inv-loop μ-loop
 gap-of-requires c κs = has-format (c .before .before .before .before .before .pre .0 .accepted)
@@ -42,7 +42,7 @@ types-requires c κs = search needs
 loop-holds : tie.Need-loop-holds Inv-loop μ-loop
 loop-holds c =
     let pol = c .before .before .before .before .before .before .before .pre .0 in
-    (search needs, sym (first-start _), record { follows = start; policy = pol; spoilt = right-agree (c .before .before .forbidden-lows .last .1 .1 .1 .0) pol (c .before .before .forbidden-lows .ensures .each); clean = clean-start _ _ _ })
+    (search needs, sym (first-start _), record { follows = start; policy = pol; spoilt = flags-agree (c .before .before .flag-spoilt .ensures); clean = clean-start _ _ _ })
 
 mend-type-requires : tie.Need-mend-type-requires Inv-loop μ-loop
 mend-type-requires c κs =
@@ -100,7 +100,7 @@ mend-all-spec =
     (tie.spec
     Inv-loop
     μ-loop
-    forbidden-lows-requires
+    flag-spoilt-requires
     gap-of-requires
     types-requires
     loop-holds

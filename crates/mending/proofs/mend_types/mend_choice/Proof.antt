@@ -17,10 +17,10 @@ use Rattle.mending.proofs.mend_types.mend_choice.Statement.{statement}
 use Rattle.mending.proofs.mend_types.mend_choice.Tie as tie
 
 abbrev Inv-loop : tie.InvT-loop
-Inv-loop words m₀ low x kids n allowed₀ forbidden₀ count₀ m allowed forbidden count = Mending words low x m₀ m count × Read m n allowed forbidden
+Inv-loop words m₀ flags x kids n allowed₀ forbidden₀ count₀ m allowed forbidden count = Mending words flags x m₀ m count × Read m n allowed forbidden
 
 abbrev μ-loop : tie.MeasureT-loop
-μ-loop words m₀ low x kids n allowed₀ forbidden₀ count₀ m allowed forbidden count = allowedIn m (privileges words)
+μ-loop words m₀ flags x kids n allowed₀ forbidden₀ count₀ m allowed forbidden count = allowedIn m (privileges words)
 
 -- what was told to be taken: the replacement of a position by one, both below 16
 told : (c : tie.After-taken Inv-loop μ-loop) → let at = c .before .before .before .before .before .before .before .before .before in let a = at .before .before .before .before .before .before .before .before .args in let i = c .taken .given .0 .0 in let k = c .taken .given .0 .1 .0 in

@@ -10,10 +10,10 @@ use Rattle.mending.proofs.mend_types.mend_renewed.Statement.{statement}
 use Rattle.mending.proofs.mend_types.mend_renewed.Tie as tie
 
 abbrev Inv-loop : tie.InvT-loop
-Inv-loop words m₀ low x kids n count₀ m count = Mending words low x m₀ m count
+Inv-loop words m₀ flags x kids n count₀ m count = Mending words flags x m₀ m count
 
 abbrev μ-loop : tie.MeasureT-loop
-μ-loop words m₀ low x kids n count₀ m count = allowedIn m (privileges words)
+μ-loop words m₀ flags x kids n count₀ m count = allowedIn m (privileges words)
 
 -- what was told to be taken
 told : (c : tie.After-taken Inv-loop μ-loop) → let at = c .before .before .before .before in let a = at .before .before .before .before .args in

@@ -1,25 +1,23 @@
 -- The loop has counted the changes passed. Assumes nothing.
 use borrow.Author.Needs.{needs}
-use Rattle.proposing.proofs.Changes.{changes-here, changes-same}
-use Rattle.proposing.specs.Proposals.{changes}
-use Rattle.table.specs.Sum.{sumBelow}
-use denote.Ref.{now}
+use Rattle.proposing.specs.Proposals.{Changed}
+use Rattle.table.specs.HowMany.{HowMany, none}
+use Rattle.table.proofs.HowMany.{many-next, many-skip}
 use native.Mathlib.Omega.{arith}
 use mathlib.Core.Logic.{⊎-elim}
-use mathlib.Core.Path.{_≡_, refl, sym, _∙_}
+use mathlib.Core.Path.{_≡_}
 use Prim.Native.Nat.{_-_, _≤_}
 use Rattle.proposing.proofs.compare.count_changes.Statement.{statement}
 use Rattle.proposing.proofs.compare.count_changes.Tie as tie
 
 abbrev Inv-loop : tie.InvT-loop
-Inv-loop marks proposed v count₀ p₀ count p = (p ≤ v) × (count ≡ changes marks proposed p) × (count ≤ p)
+Inv-loop marks proposed v count₀ p₀ count p = (p ≤ v) × HowMany (Changed marks proposed) p count × (count ≤ p)
 
 abbrev μ-loop : tie.MeasureT-loop
 μ-loop marks proposed v count₀ p₀ count p = v - p
 
 loop-holds : tie.Need-loop-holds Inv-loop μ-loop
-unfolding sumBelow
-loop-holds c = (search needs, refl, search needs)
+loop-holds c = (search needs, none, search needs)
 
 shared-slice-read-if1 : tie.Need-shared-slice-read-if1 Inv-loop μ-loop
 shared-slice-read-if1 c = omega (arith, c .before .loop-test .taken, c .before .before .before .pre .1)
@@ -41,12 +39,10 @@ loop-less c = omega arith
 loop-again : tie.Need-loop-again Inv-loop μ-loop
 loop-again c =
     let at = c .before .before .before .before in
-    let m = now (at .before .args .marks) in
-    let n = now (at .before .args .proposed) in
-    let is : at .loop .count ≡ changes m n (at .loop .p) = at .loop .inv .1 in
+    let h = at .loop .inv .1 in
     ⊎-elim
-    (λ w. (search needs, w .1 ∙ rw is (sym (changes-here m n (at .loop .p) (w .0 .taken))), omega (arith, w .1, at .loop .inv .2)))
-    (λ w. (search needs, w .1 ∙ is ∙ sym (changes-same m n (at .loop .p) (w .0 .left)), omega (arith, w .1, at .loop .inv .2)))
+    (λ w. (search needs, rw (w .1) (many-next h (w .0 .taken)), omega (arith, w .1, at .loop .inv .2)))
+    (λ w. (search needs, rw (w .1) (many-skip h (λ d. d (w .0 .left))), omega (arith, w .1, at .loop .inv .2)))
     (c .if1 .came)
 
 cast-result : tie.Need-cast-result Inv-loop μ-loop

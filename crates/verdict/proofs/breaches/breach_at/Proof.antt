@@ -21,20 +21,20 @@ rule-at-requires c κs = let p = c .before .before .pre in has-record (p .0 .acc
 enum-told : tie.Need-enum-told
 enum-told c = search needs
 
-no-breach-requires : tie.Need-no-breach-requires
-no-breach-requires c κs = search needs
+no-spot-requires : tie.Need-no-spot-requires
+no-spot-requires c κs = search needs
 
 enum-told-2 : tie.Need-enum-told-2
 enum-told-2 c = search needs
 
-no-breach-requires-2 : tie.Need-no-breach-requires-2
-no-breach-requires-2 c κs = search needs
+no-spot-requires-2 : tie.Need-no-spot-requires-2
+no-spot-requires-2 c κs = search needs
 
 enum-told-3 : tie.Need-enum-told-3
 enum-told-3 c = search needs
 
-no-breach-requires-3 : tie.Need-no-breach-requires-3
-no-breach-requires-3 c κs = search needs
+no-spot-requires-3 : tie.Need-no-spot-requires-3
+no-spot-requires-3 c κs = search needs
 
 enum-told-4 : tie.Need-enum-told-4
 enum-told-4 c = search needs
@@ -75,17 +75,17 @@ star-breach-requires c κs =
 returns : tie.Need-returns
 returns c =
     let k = kind (c .before .before .before) (c .before .enum-told .given .1) in
-    none (c .no-breach .ensures) (plain-none _ _ _ _ (λ e. omega arith) (λ e. omega arith))
+    none (c .no-spot .ensures) (plain-none _ _ _ _ (λ e. omega arith) (λ e. omega arith))
 
 returns-2 : tie.Need-returns-2
 returns-2 c =
     let k = kind (c .before .before .before) (c .before .enum-told2 .given .1) in
-    none (c .no-breach2 .ensures) (plain-none _ _ _ _ (λ e. omega arith) (λ e. omega arith))
+    none (c .no-spot2 .ensures) (plain-none _ _ _ _ (λ e. omega arith) (λ e. omega arith))
 
 returns-3 : tie.Need-returns-3
 returns-3 c =
     let k = kind (c .before .before .before) (c .before .enum-told3 .given .1) in
-    none (c .no-breach3 .ensures) (plain-none _ _ _ _ (λ e. omega arith) (λ e. omega arith))
+    none (c .no-spot3 .ensures) (plain-none _ _ _ _ (λ e. omega arith) (λ e. omega arith))
 
 returns-4 : tie.Need-returns-4
 returns-4 c = search needs
@@ -99,11 +99,11 @@ breach-at-spec =
     (tie.spec
     rule-at-requires
     enum-told
-    no-breach-requires
+    no-spot-requires
     enum-told-2
-    no-breach-requires-2
+    no-spot-requires-2
     enum-told-3
-    no-breach-requires-3
+    no-spot-requires-3
     enum-told-4
     children-requires
     numbers-at-requires

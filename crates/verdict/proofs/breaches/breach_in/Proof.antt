@@ -13,18 +13,11 @@ first-broken-requires c κs =
 enum-known-chain : tie.Need-enum-known-chain
 enum-known-chain c = search needs
 
-replacement-requires : tie.Need-replacement-requires
-replacement-requires c κs =
-    let found = c .before .before .before in
-    let numbered = found .before .before .before .before .pre .1 in
-    let f = rw (c .before .chain .given .1) at (found .first-broken .ensures) in
-    record { small = numbered-small numbered; from = f .from; to = f .to }
-
 returns : tie.Need-returns
 returns c =
-    let found = c .before .before .before .before in
+    let found = c .before .before .before in
     let p = found .before .before .before .before .pre in
-    rw (c .replacement .ensures) (chain-first _ _ _ _ (p .2) (p .1) (p .3) (rw (c .before .before .chain .given .1) at (found .first-broken .ensures)))
+    chain-first _ _ _ _ (p .2) (p .1) (p .3) (rw (c .before .chain .given .1) at (found .first-broken .ensures))
 
 enum-told : tie.Need-enum-told
 enum-told c = search needs
@@ -44,7 +37,6 @@ breach-in-spec =
     (tie.spec
     first-broken-requires
     enum-known-chain
-    replacement-requires
     returns
     enum-told
     cycle-breach-requires

@@ -1,4 +1,4 @@
--- What is kept for the star's child. Assumes nothing.
+-- The flag of the star's child. Assumes nothing.
 use borrow.Author.Needs.{needs}
 use Prim.Native.Nat.{ℕ}
 use denote.Ref.{now}
@@ -20,47 +20,38 @@ child-is c = c .word-at .ensures .is ∙ ap (λ (l : List ℕ). getD l 0 0) (c .
 word-at-requires : tie.Need-word-at-requires
 word-at-requires c κs = search needs
 
-forbidden-below-requires : tie.Need-forbidden-below-requires
-forbidden-below-requires c κs =
+element-copy-out-if1 : tie.Need-element-copy-out-if1
+element-copy-out-if1 c =
     let start = c .before .before .before .before in
     let v = start .pre .0 in
     let f = facts (v .policy .accepted) in
     omega (arith, child-is c, f .few, f .child-inside (start .args .x) 0 (v .type) (omega (arith, f .star-one (start .args .x) (start .pre .1))))
 
-enum-known-found : tie.Need-enum-known-found
-enum-known-found c = search needs
-
-star-broken-requires : tie.Need-star-broken-requires
-star-broken-requires c κs = search needs
+star-spot-requires : tie.Need-star-spot-requires
+star-spot-requires c κs = search needs
 
 returns : tie.Need-returns
 returns c =
-    let found = c .before .before .before .before in
-    let pre = found .before .before .before .before .before .pre in
-    let worst = rw (child-is (found .before)) at (rw (c .before .before .found .given .1) at (found .forbidden-below .ensures)) in
-    rw (c .star-broken .ensures) (star-first _ _ _ _ (pre .1) (at-below (pre .2) (pre .3) worst))
+    let read = c .before .before .before in
+    let pre = read .before .before .before .before .pre in
+    rw (c .star-spot .ensures) (star-first _ _ _ _ (pre .1) {p = 0} (at-below (pre .2) (pre .3) (rw (child-is read) at (c .before .if1 .taken))))
 
-enum-told : tie.Need-enum-told
-enum-told c = search needs
-
-no-breach-requires : tie.Need-no-breach-requires
-no-breach-requires c κs = search needs
+no-spot-requires : tie.Need-no-spot-requires
+no-spot-requires c κs = search needs
 
 returns-2 : tie.Need-returns-2
 returns-2 c =
-    let found = c .before .before .before in
-    let pre = found .before .before .before .before .before .pre in
-    none (c .no-breach .ensures) (star-free _ _ _ _ (pre .1) (pre .2) (rw (child-is (found .before)) at (rw (c .before .enum-told .given .1) at (found .forbidden-below .ensures))))
+    let read = c .before .before .before in
+    let pre = read .before .before .before .before .pre in
+    none (c .no-spot .ensures) (star-free _ _ _ _ (pre .1) (pre .2) (λ q f. c .before .if1 .left (rw (child-is read) f)))
 
 pub renewed-breach-spec : {M : Type 1} → statement M
 renewed-breach-spec =
     tie.close
     (tie.spec
     word-at-requires
-    forbidden-below-requires
-    enum-known-found
-    star-broken-requires
+    element-copy-out-if1
+    star-spot-requires
     returns
-    enum-told
-    no-breach-requires
+    no-spot-requires
     returns-2)

@@ -1,7 +1,6 @@
 -- By whether the child can be renewed. Assumes nothing.
 use borrow.Author.Needs.{needs}
-use mathlib.Core.Path.{_∙_}
-use Rattle.table.proofs.Privileges.{exchange-in}
+use mathlib.Core.Path.{refl}
 use Rattle.policy.proofs.Renewals.{renewed-out, renewed-into, barred-out, barred-into}
 use Rattle.verdict.specs.Breaches.{at-exchange}
 use Rattle.verdict.specs.steps.Visits.{none}
@@ -15,17 +14,14 @@ renewal-of-requires c κs = search needs
 enum-told : tie.Need-enum-told
 enum-told c = search needs
 
-no-breach-requires : tie.Need-no-breach-requires
-no-breach-requires c κs = search needs
+no-spot-requires : tie.Need-no-spot-requires
+no-spot-requires c κs = search needs
 
 enum-told-2 : tie.Need-enum-told-2
 enum-told-2 c = search needs
 
-exchange-requires : tie.Need-exchange-requires
-exchange-requires c κs = search needs
-
-star-broken-requires : tie.Need-star-broken-requires
-star-broken-requires c κs = search needs
+star-spot-requires : tie.Need-star-spot-requires
+star-spot-requires c κs = search needs
 
 enum-told-3 : tie.Need-enum-told-3
 enum-told-3 c = search needs
@@ -40,14 +36,14 @@ returns : tie.Need-returns
 returns c =
     let pre = c .before .before .before .before .before .before .before .pre in
     let closed = rw (c .before .enum-told .given .1) at (c .before .before .before .renewal-of .ensures) in
-    none (c .no-breach .ensures) (star-closed _ _ _ _ (pre .2) (λ r. closed (renewed-into (pre .1) r)))
+    none (c .no-spot .ensures) (star-closed _ _ _ _ (pre .2) (λ r. closed (renewed-into (pre .1) r)))
 
 returns-2 : tie.Need-returns-2
 returns-2 c =
-    let told = c .before .before in
+    let told = c .before in
     let pre = told .before .before .before .before .before .before .pre in
     let barred = barred-out (pre .1) (pre .2) (rw (told .enum-told2 .given .1) at (told .before .before .renewal-of .ensures)) in
-    rw (c .star-broken .ensures) (star-first _ _ _ _ (pre .2) (at-exchange barred (c .before .exchange .ensures ∙ exchange-in (pre .1))))
+    rw (c .star-spot .ensures) (star-first _ _ _ _ (pre .2) (at-exchange barred refl))
 
 returns-3 : tie.Need-returns-3
 returns-3 c = search needs
@@ -58,10 +54,9 @@ star-breach-spec =
     (tie.spec
     renewal-of-requires
     enum-told
-    no-breach-requires
+    no-spot-requires
     enum-told-2
-    exchange-requires
-    star-broken-requires
+    star-spot-requires
     enum-told-3
     renewed-breach-requires
     returns

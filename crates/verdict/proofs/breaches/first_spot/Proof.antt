@@ -1,7 +1,7 @@
 -- The loop has passed no type with a breach. Assumes nothing.
 use borrow.Author.Needs.{needs}
 use Rattle.verdict.proofs.Firsts.{CleanBefore, clean-start, clean-more, clean-all, at-none, at-first, no-tag}
-use Rattle.verdict.specs.steps.Lows.{Kept}
+use Rattle.verdict.specs.steps.Spoils.{Flagged}
 use Rattle.verdict.specs.steps.Visits.{none}
 use Rattle.table.proofs.Facts.{facts, has-format, has-record}
 use Rattle.table.proofs.Privileges.{first-start, first-next, first-within}
@@ -11,14 +11,14 @@ use denote.Ref.{now}
 use native.Mathlib.Omega.{arith}
 use mathlib.Core.Path.{_≡_, sym, ap, _∙_}
 use Prim.Native.Nat.{ℕ, _-_, _+_, _≤_, _<_}
-use Rattle.verdict.proofs.breaches.breach_by.Statement.{statement}
-use Rattle.verdict.proofs.breaches.breach_by.Tie as tie
+use Rattle.verdict.proofs.breaches.first_spot.Statement.{statement}
+use Rattle.verdict.proofs.breaches.first_spot.Tie as tie
 
 abbrev Inv-loop : tie.InvT-loop
-Inv-loop words marks low gap e first₀ x₀ first x = (x ≤ e) × (first ≡ firstPrivilege words x) × CleanBefore words marks (Kept low) x
+Inv-loop words marks flags gap e first₀ x₀ first x = (x ≤ e) × (first ≡ firstPrivilege words x) × CleanBefore words marks (Flagged flags) x
 
 abbrev μ-loop : tie.MeasureT-loop
-μ-loop words marks low gap e first₀ x₀ first x = e - x
+μ-loop words marks flags gap e first₀ x₀ first x = e - x
 
 -- the loop stands at a type
 is-type : (c : tie.In-loop Inv-loop μ-loop) → c .before .loop .x < types (now (c .before .before .before .before .before .before .args .words))
@@ -72,18 +72,18 @@ returns c =
     let found = c .before in
     at-first _ _ _ (found .before .before .loop .inv .2) (found .breach-at .ensures) (λ e. no-tag (rw e at (c .match .keys2)))
 
-no-breach-requires : tie.Need-no-breach-requires Inv-loop μ-loop
-no-breach-requires c κs = search needs
+no-spot-requires : tie.Need-no-spot-requires Inv-loop μ-loop
+no-spot-requires c κs = search needs
 
 returns-2 : tie.Need-returns-2 Inv-loop μ-loop
 returns-2 c =
     let at = c .before .before in
     let start = at .before .before .before .before .before in
     let end : at .loop .x ≡ types (now (start .args .words)) = omega (arith, at .loop .inv .0, c .before .loop-test .left, at .before .types .ensures .is) in
-    none (c .no-breach .ensures) (clean-all _ _ _ (rw end at (at .loop .inv .2)))
+    none (c .no-spot .ensures) (clean-all _ _ _ (rw end at (at .loop .inv .2)))
 
-pub breach-by-spec : {M : Type 1} → statement M
-breach-by-spec =
+pub first-spot-spec : {M : Type 1} → statement M
+first-spot-spec =
     tie.close
     (tie.spec
     Inv-loop
@@ -99,5 +99,5 @@ breach-by-spec =
     loop-less
     loop-again
     returns
-    no-breach-requires
+    no-spot-requires
     returns-2)

@@ -1,20 +1,20 @@
 -- The pass keeps what the types passed, and those still to come, hold. Assumes nothing.
 use borrow.Author.Needs.{needs}
-use Rattle.verdict.proofs.Lows.{Climbed, climb-start, climb-more, climb-all}
+use Rattle.verdict.proofs.Spoils.{Climbed, climb-start, climb-more, climb-all}
 use Rattle.table.proofs.Facts.{facts, has-children}
 use Rattle.table.specs.Words.{types}
 use lib.ListN.{getD}
 use denote.Ref.{now}
 use native.Mathlib.Omega.{arith}
 use Prim.Native.Nat.{_-_, _≤_, _<_}
-use Rattle.verdict.proofs.below.forbidden_lows.Statement.{statement}
-use Rattle.verdict.proofs.below.forbidden_lows.Tie as tie
+use Rattle.verdict.proofs.spoilt.flag_spoilt.Statement.{statement}
+use Rattle.verdict.proofs.spoilt.flag_spoilt.Tie as tie
 
 abbrev Inv-loop : tie.InvT-loop
-Inv-loop words marks order low₀ e k₀ low k = Climbed words marks order k low₀ low
+Inv-loop words marks order flags₀ e k₀ flags k = Climbed words marks order k flags₀ flags
 
 abbrev μ-loop : tie.MeasureT-loop
-μ-loop words marks order low₀ e k₀ low k = e - k
+μ-loop words marks order flags₀ e k₀ flags k = e - k
 
 -- the loop stands at a place of the order, which holds a type
 module _ (c : tie.In-loop Inv-loop μ-loop) where
@@ -36,20 +36,17 @@ module _ (c : tie.In-loop Inv-loop μ-loop) where
 types-requires : tie.Need-types-requires Inv-loop μ-loop
 types-requires c κs = search needs
 
-own-lows-requires : tie.Need-own-lows-requires Inv-loop μ-loop
-own-lows-requires c κs = let s = c .before .before .before .before in (s .pre .0, s .pre .2)
+own-flags-requires : tie.Need-own-flags-requires Inv-loop μ-loop
+own-flags-requires c κs = let s = c .before .before .before .before in (s .pre .0, s .pre .2)
 
 loop-holds : tie.Need-loop-holds Inv-loop μ-loop
-loop-holds c = climb-start (c .before .before .before .before .before .pre .1) (c .own-lows .ensures)
+loop-holds c = climb-start (c .before .before .before .before .before .pre .1) (c .own-flags .ensures)
 
 element-copy-out-x : tie.Need-element-copy-out-x Inv-loop μ-loop
 element-copy-out-x c = omega (arith, is-type c, few c)
 
 cast-x : tie.Need-cast-x Inv-loop μ-loop
 cast-x c = omega (arith, index (c .before))
-
-mul-own : tie.Need-mul-own Inv-loop μ-loop
-mul-own c = omega (arith, index (c .before))
 
 element-copy-out-own : tie.Need-element-copy-out-own Inv-loop μ-loop
 element-copy-out-own c = index (c .before)
@@ -59,18 +56,15 @@ children-requires c κs =
     let loop = c .before .before in
     has-children (start loop .pre .0 .accepted) (type loop)
 
-least-of-requires : tie.Need-least-of-requires Inv-loop μ-loop
-least-of-requires c κs =
+flag-over-requires : tie.Need-flag-over-requires Inv-loop μ-loop
+flag-over-requires c κs =
     let loop = c .before .before .before .before in
     let kids = c .before .children .ensures in
     let f = facts (start loop .pre .0 .accepted) in
     λ i l. rw kids (omega (arith, few loop, f .child-inside _ i (type loop) (rw (← f .children-here _ (type loop), ← kids) l)))
 
-mul-low : tie.Need-mul-low Inv-loop μ-loop
-mul-low c = omega (arith, index (c .before .before .before .before .before))
-
-element-write-low : tie.Need-element-write-low Inv-loop μ-loop
-element-write-low c = index (c .before .before .before .before .before)
+element-write-flags : tie.Need-element-write-flags Inv-loop μ-loop
+element-write-flags c = index (c .before .before .before .before .before)
 
 add-k : tie.Need-add-k Inv-loop μ-loop
 add-k c = omega arith
@@ -81,30 +75,28 @@ loop-less c = omega arith
 loop-again : tie.Need-loop-again Inv-loop μ-loop
 loop-again c =
     let loop = c .before .before .before .before .before in
-    climb-more (start loop .pre .0) (start loop .pre .1) (loop .before .loop .inv) (is-type loop) (rw (c .before .before .children .ensures) at (c .least-of .ensures))
+    climb-more (start loop .pre .0) (start loop .pre .1) (loop .before .loop .inv) (is-type loop) (rw (c .before .before .children .ensures) at (c .flag-over .ensures))
 
 returns : tie.Need-returns Inv-loop μ-loop
 returns c =
     let at = c .before in
-    climb-all (at .before .before .before .before .before .before .pre .1) (at .before .own-lows .ensures) (at .loop .inv) (omega (arith, c .loop-test .left, at .before .before .before .types .ensures .is))
+    climb-all (at .before .before .before .before .before .before .pre .1) (at .before .own-flags .ensures) (at .loop .inv) (omega (arith, c .loop-test .left, at .before .before .before .types .ensures .is))
 
-pub forbidden-lows-spec : {M : Type 1} → statement M
-forbidden-lows-spec =
+pub flag-spoilt-spec : {M : Type 1} → statement M
+flag-spoilt-spec =
     tie.close
     (tie.spec
     Inv-loop
     μ-loop
     types-requires
-    own-lows-requires
+    own-flags-requires
     loop-holds
     element-copy-out-x
     cast-x
-    mul-own
     element-copy-out-own
     children-requires
-    least-of-requires
-    mul-low
-    element-write-low
+    flag-over-requires
+    element-write-flags
     add-k
     loop-less
     loop-again
