@@ -1,11 +1,11 @@
 // The five calls written by hand for speed, in plain Rust: what the proved code is measured against.
-// The steps are those of the proved code: a table check that puts the types in order, one bottom-up pass for the lowest forbidden privilege below each
-// type, Warshall's closure for each choice, a completion that opens downwards, a mend in ascending order with the closure made anew for each mark
-// taken. What is done by hand: a table is accepted by a pass over its records that is not left early and looks rules up, one over its child list, and
-// one over the types in their order, which is made meanwhile, without a branch; only a refused one is searched for the first failing check, and
-// for a cycle in one walk; a row of a choice is 16 bits; marks are checked and compared many at a time, read 16 at a time, each mark's bit gathered
-// by a multiplication, and written eight at a time; the format is asked once a call, and what goes by it is compiled for each. Nothing is allocated, and
-// nothing is unsafe.
+// The steps are those of the proved code: a table check that puts the types in order, one bottom-up pass for whether something is forbidden below each
+// type, Warshall's closure for each choice, a count of what is forbidden below the child of the first breach, a completion that opens downwards, a mend
+// in ascending order with the closure made anew for each mark taken. What is done by hand: a table is accepted by a pass over its records that is not
+// left early and looks rules up, one over its child list, and one over the types in their order, which is made meanwhile, without a branch; only a
+// refused one is searched for the first failing check, and for a cycle in one walk; a row of a choice is 16 bits; marks are checked and compared many
+// at a time, read 16 at a time, each mark's bit gathered by a multiplication, and written eight at a time; the format is asked once a call, and what
+// goes by it is compiled for each. Nothing is allocated, and nothing is unsafe.
 
 use crate::calls::Outcome;
 use std::mem::replace;
@@ -25,9 +25,6 @@ const TWO: bool = true;
 
 const MOST_CHILDREN: u16 = 16;
 const MOST_PRIVILEGES: usize = 4096;
-
-/// Stands for "nothing is forbidden"; a privilege is below 4,096.
-const NONE: u16 = u16::MAX;
 
 /// Kind, number of children, index of the first child.
 type Record = [u16; 3];
@@ -402,44 +399,72 @@ fn lowest_bits(bytes: u128) -> u16 {
     eight(bytes as u64) | eight((bytes >> 64) as u64) << 8
 }
 
-/// The lowest forbidden privilege among some marks, the first of which has a given number.
-fn lowest_forbidden(marks: &[u8], first: usize) -> u16 {
-    let twos = u128::from_ne_bytes([FORBIDDEN; 16]);
-    let (chunks, rest) = marks.as_chunks::<16>();
-    let mut at = first;
-    for chunk in chunks {
-        let found = u128::from_le_bytes(*chunk) & twos;
-        if found != 0 {
-            return (at + found.trailing_zeros() as usize / 8) as u16;
-        }
-        at += 16;
-    }
-    rest.iter().position(|&mark| mark == FORBIDDEN).map_or(NONE, |k| (at + k) as u16)
+/// Whether one of some marks is forbidden: a mark's second bit tells.
+fn any_forbidden(marks: &[u8]) -> bool {
+    marks.iter().fold(0, |all, mark| all | mark) & FORBIDDEN != 0
 }
 
 // ---------------------------------------------------------------- the verdict
 
+/// A breach, with the type's own privilege that is forbidden; none where what is forbidden is below the child at i.
 struct Breach {
     condition: usize,
     element: usize,
     i: usize,
     j: usize,
-    privilege: usize,
+    own: Option<usize>,
 }
 
-/// Fills in for each type the lowest forbidden privilege below it: first its own, then, from children to parents, with those below its children.
-fn fill_lows(table: &Table, marks: &[u8], low: &mut [u16; 256]) {
+/// What is forbidden at a breach: the lowest privilege, and how many there are.
+struct Tally {
+    lowest: usize,
+    count: usize,
+}
+
+/// A type is spoilt if something is forbidden below it: first by its own privileges, then, from children to parents, by its children.
+fn fill_spoilt(table: &Table, marks: &[u8], spoilt: &mut [bool; 256]) {
     let mut first = 0;
-    for (record, own) in table.records.iter().zip(&mut *low) {
+    for (record, own) in table.records.iter().zip(&mut *spoilt) {
         let until = first + table.privileges_of(record);
-        *own = lowest_forbidden(&marks[first..until], first);
+        *own = any_forbidden(&marks[first..until]);
         first = until;
     }
     for &x in table.order.iter().rev() {
         let kids = table.children(&table.records[x as usize]);
-        let join = |least: u16, &child: &u16| least.min(low[child as usize & 255]);
-        low[x as usize] = kids.iter().fold(low[x as usize], join);
+        let join = |any: bool, &child: &u16| any | spoilt[child as usize & 255];
+        spoilt[x as usize] = kids.iter().fold(spoilt[x as usize], join);
     }
+}
+
+/// How many of some marks are forbidden: a mark's second bit tells.
+fn count_forbidden(marks: &[u8]) -> usize {
+    let count = |some: &[u8]| some.iter().map(|mark| mark >> 1).sum::<u8>() as usize;
+    marks.chunks(128).map(count).sum()
+}
+
+/// What is forbidden below a type that is spoilt. Parents come before their children, so that one pass finds the types below.
+fn tally_below(table: &Table, marks: &[u8], spoilt: &[bool; 256], top: u16) -> Tally {
+    let mut below = [false; 256];
+    below[top as usize & 255] = true;
+    for &x in table.order {
+        if below[x as usize] {
+            let kids = table.children(&table.records[x as usize]);
+            kids.iter().for_each(|&child| below[child as usize & 255] = true);
+        }
+    }
+    let (mut first, mut tally) = (0, Tally { lowest: 0, count: 0 });
+    for (x, record) in table.records.iter().enumerate() {
+        let until = first + table.privileges_of(record);
+        if below[x & 255] & spoilt[x & 255] {
+            let own = &marks[first..until];
+            if tally.count == 0 {
+                tally.lowest = first + own.iter().position(|&mark| mark == FORBIDDEN).unwrap_or(0);
+            }
+            tally.count += count_forbidden(own);
+        }
+        first = until;
+    }
+    tally
 }
 
 /// The replacements of a choice as 16 rows of 16 bits: row i, bit j.
@@ -514,14 +539,14 @@ fn first_cycle(reached: &Rows, spoilt: u16) -> Option<usize> {
 }
 
 /// A bit for each child that has something forbidden below it.
-fn spoilt_in(kids: &[u16], low: &[u16; 256]) -> u16 {
-    let bit = |(i, &child): (usize, &u16)| ((low[child as usize & 255] != NONE) as u16) << (i & 15);
+fn spoilt_in(kids: &[u16], spoilt: &[bool; 256]) -> u16 {
+    let bit = |(i, &child): (usize, &u16)| (spoilt[child as usize & 255] as u16) << (i & 15);
     kids.iter().enumerate().map(bit).fold(0, |all, one| all | one)
 }
 
 fn choice_breach<const IS_TWO: bool>(
     marks: &[u8],
-    low: &[u16; 256],
+    spoilt: &[bool; 256],
     element: usize,
     kids: &[u16],
     first: usize,
@@ -530,12 +555,11 @@ fn choice_breach<const IS_TWO: bool>(
     let (allowed, forbidden) = read_choice::<IS_TWO>(marks, first, n);
     let reached = reach(&allowed, n);
     if let Some((i, j)) = first_chain(&reached, &forbidden) {
-        let privilege = replacement::<IS_TWO>(first, n, i, j);
-        return Some(Breach { condition: 2, element, i, j, privilege });
+        let own = Some(replacement::<IS_TWO>(first, n, i, j));
+        return Some(Breach { condition: 2, element, i, j, own });
     }
-    let i = first_cycle(&reached, spoilt_in(kids, low))?;
-    let privilege = low[kids[i] as usize & 255] as usize;
-    Some(Breach { condition: 3, element, i, j: i, privilege })
+    let i = first_cycle(&reached, spoilt_in(kids, spoilt))?;
+    Some(Breach { condition: 3, element, i, j: i, own: None })
 }
 
 fn both_allowed(marks: &[u8], first: usize) -> bool {
@@ -549,26 +573,34 @@ fn exchange_is<const IS_TWO: bool>(marks: &[u8], first: usize, mark: u8) -> bool
 
 fn star_breach<const IS_TWO: bool>(
     marks: &[u8],
-    low: &[u16; 256],
+    spoilt: &[bool; 256],
     element: usize,
     kids: &[u16],
     first: usize,
 ) -> Option<Breach> {
-    let lowest = low[kids[0] as usize & 255];
-    let at = |privilege| Some(Breach { condition: 1, element, i: 0, j: 0, privilege });
+    let at = |own| Some(Breach { condition: 1, element, i: 0, j: 0, own });
     if exchange_is::<IS_TWO>(marks, first, FORBIDDEN) && both_allowed(marks, first) {
-        return at(first + 2);
+        return at(Some(first + 2));
     }
-    if lowest == NONE {
+    if !spoilt[kids[0] as usize & 255] {
         return None;
     }
     if both_allowed(marks, first) || exchange_is::<IS_TWO>(marks, first, ALLOWED) {
-        return at(lowest as usize);
+        return at(None);
     }
     None
 }
 
-fn first_breach(table: &Table, marks: &[u8]) -> Option<Breach> {
+/// What is forbidden at a breach.
+fn tally_at(table: &Table, marks: &[u8], spoilt: &[bool; 256], at: &Breach) -> Tally {
+    match at.own {
+        Some(lowest) => Tally { lowest, count: 1 },
+        None => tally_below(table, marks, spoilt, table.children(&table.records[at.element])[at.i]),
+    }
+}
+
+/// The first breach, and what is forbidden there.
+fn first_breach(table: &Table, marks: &[u8]) -> Option<(Breach, Tally)> {
     if table.is_two {
         first_breach_in::<TWO>(table, marks)
     } else {
@@ -576,18 +608,19 @@ fn first_breach(table: &Table, marks: &[u8]) -> Option<Breach> {
     }
 }
 
-fn first_breach_in<const IS_TWO: bool>(table: &Table, marks: &[u8]) -> Option<Breach> {
-    let mut low = [NONE; 256];
-    fill_lows(table, marks, &mut low);
+fn first_breach_in<const IS_TWO: bool>(table: &Table, marks: &[u8]) -> Option<(Breach, Tally)> {
+    let mut spoilt = [false; 256];
+    fill_spoilt(table, marks, &mut spoilt);
     let mut first = 0;
     for (x, record) in table.records.iter().enumerate() {
         let breach = match record[0] {
-            CHOICE => choice_breach::<IS_TWO>(marks, &low, x, table.children(record), first),
-            STAR => star_breach::<IS_TWO>(marks, &low, x, table.children(record), first),
+            CHOICE => choice_breach::<IS_TWO>(marks, &spoilt, x, table.children(record), first),
+            STAR => star_breach::<IS_TWO>(marks, &spoilt, x, table.children(record), first),
             _ => None,
         };
-        if breach.is_some() {
-            return breach;
+        if let Some(breach) = breach {
+            let tally = tally_at(table, marks, &spoilt, &breach);
+            return Some((breach, tally));
         }
         first += table.privileges_of(record);
     }
@@ -718,13 +751,13 @@ fn lowest_lead(allowed: &Rows, reached: &Rows, i: usize, j: usize) -> usize {
 
 fn mend_choice<const IS_TWO: bool>(
     m: &mut [u8],
-    low: &[u16; 256],
+    spoilt: &[bool; 256],
     kids: &[u16],
     first: usize,
 ) -> usize {
     let n = kids.len();
     let (mut allowed, mut forbidden) = read_choice::<IS_TWO>(m, first, n);
-    let spoilt = spoilt_in(kids, low);
+    let spoilt = spoilt_in(kids, spoilt);
     let mut count = 0;
     loop {
         let reached = reach(&allowed, n);
@@ -743,11 +776,11 @@ fn mend_choice<const IS_TWO: bool>(
 /// First the delete, for insert and delete; then the exchange.
 fn mend_star<const IS_TWO: bool>(
     m: &mut [u8],
-    low: &[u16; 256],
+    spoilt: &[bool; 256],
     kids: &[u16],
     first: usize,
 ) -> usize {
-    let spoilt = low[kids[0] as usize & 255] != NONE;
+    let spoilt = spoilt[kids[0] as usize & 255];
     let mut count = 0;
     if (spoilt || exchange_is::<IS_TWO>(m, first, FORBIDDEN)) && both_allowed(m, first) {
         m[first + 1] = FORBIDDEN;
@@ -769,14 +802,14 @@ fn mend_all(table: &Table, m: &mut [u8]) -> usize {
 }
 
 fn mend_all_in<const IS_TWO: bool>(table: &Table, m: &mut [u8]) -> usize {
-    let mut low = [NONE; 256];
-    fill_lows(table, m, &mut low);
+    let mut spoilt = [false; 256];
+    fill_spoilt(table, m, &mut spoilt);
     let (mut first, mut count) = (0, 0);
     for record in table.records {
         let kids = table.children(record);
         match record[0] {
-            CHOICE => count += mend_choice::<IS_TWO>(m, &low, kids, first),
-            STAR => count += mend_star::<IS_TWO>(m, &low, kids, first),
+            CHOICE => count += mend_choice::<IS_TWO>(m, &spoilt, kids, first),
+            STAR => count += mend_star::<IS_TWO>(m, &spoilt, kids, first),
             _ => (),
         }
         first += table.privileges_of(record);
@@ -815,11 +848,12 @@ fn refused((number, place): Refusal) -> Outcome {
     Outcome::refusal(number, place)
 }
 
-fn with_breach(number: usize, breach: Option<Breach>) -> Outcome {
-    let Some(Breach { condition, element, i, j, privilege }) = breach else {
+fn with_breach(number: usize, breach: Option<(Breach, Tally)>) -> Outcome {
+    let Some((Breach { condition, element, i, j, .. }, tally)) = breach else {
         return Outcome::default();
     };
-    Outcome { number, condition, element, i, j, privilege, ..Outcome::default() }
+    let Tally { lowest: privilege, count: forbidden } = tally;
+    Outcome { number, condition, element, i, j, privilege, forbidden, ..Outcome::default() }
 }
 
 fn told(told: Told) -> Outcome {

@@ -1,6 +1,7 @@
 // What is measured: the sample, a table of ordinary size, the largest tables with the worst marks for each call, the last two also with their types
-// renumbered; the sample, the ordinary and a largest table in format 2; tables that are refused for a cycle or a type that is not reached; and tables
-// that double.
+// renumbered; the sample, the ordinary and a largest table in format 2; the ordinary and the largest tables below a star that breaks condition 1, so that
+// much is counted; tables that are refused for a cycle or a type that is not reached; and tables that double, by
+// themselves and below such a star.
 
 use crate::calls::{Call, Case};
 use crate::fast;
@@ -76,6 +77,12 @@ pub fn ordinary(format: u16) -> Vec<u16> {
     (33..=37).for_each(|child| add(STAR, vec![child]));
     (9..=39).for_each(|leaf| add(if leaf < 23 { TEXT } else { EMPTY }, Vec::new()));
     encode(format, &types, 0)
+}
+
+/// Types below a star, which is their last type and the root.
+fn starred(format: u16, mut types: Vec<Type>) -> Vec<u16> {
+    types.push(Type { kind: STAR, children: vec![0] });
+    encode(format, &types, types.len() - 1)
 }
 
 /// A table of e types and c child entries, whose last `choices` types with children are choices and the others sequences. A type with children
@@ -365,9 +372,36 @@ fn largest(call: Call, format: u16) -> Input {
     Input { name: named("largest", format), cases: vec![worst(call, largest_table(format))] }
 }
 
-/// Whether what is reached is asked of clean marks.
-fn has_scattered(call: Call) -> bool {
+/// Whether a call judges marks: what is reached is asked of clean ones, and what is forbidden is counted of broken ones.
+fn judges(call: Call) -> bool {
     matches!(call, Call::JudgePolicy | Call::Complete | Call::JudgeMend)
+}
+
+/// Broken at the root alone, a star above all other types, so that all is visited and then counted.
+fn counted(format: u16, types: Vec<Type>, mut marks: Vec<u8>) -> Case {
+    marks.extend([ALLOWED, ALLOWED]);
+    if format == TWO {
+        marks.push(UNSET);
+    }
+    case(starred(format, types), marks.clone(), marks)
+}
+
+/// The ordinary table below a star, its marks by chance and mended.
+fn ordinary_counted(format: u16) -> Input {
+    let words = ordinary(format);
+    let marks = by_chance(v_of(&words), &[UNSET, ALLOWED, FORBIDDEN], 1);
+    let marks = mended(&words, &marks);
+    let cases = vec![counted(format, decode(&words), marks)];
+    Input { name: named("ordinary-counted", format), cases }
+}
+
+/// A largest table below a star, with all else forbidden: E 256, C 1,009, and V 4,096 with two texts fewer, or, in format 2, 3,843 with a choice fewer.
+fn largest_counted(format: u16) -> Input {
+    let mut types = decode(&sized(format, 255, 1008, if format == ONE { 17 } else { 15 }));
+    types.iter_mut().filter(|it| it.kind == TEXT).take(2).for_each(|it| it.kind = EMPTY);
+    let v = types.iter().map(|it| privileges_of(format, it)).sum();
+    let cases = vec![counted(format, types, vec![FORBIDDEN; v])];
+    Input { name: named("largest-counted", format), cases }
 }
 
 fn scattered_input(format: u16) -> Input {
@@ -394,8 +428,8 @@ fn inputs_of_one(call: Call) -> Vec<Input> {
     let ordinary = || ordinary_input(call, ONE);
     let mut all =
         vec![sample(ONE, &SAMPLES), ordinary(), renumbered_input(ordinary()), largest(call, ONE)];
-    if has_scattered(call) {
-        all.push(scattered_input(ONE));
+    if judges(call) {
+        all.extend([scattered_input(ONE), ordinary_counted(ONE), largest_counted(ONE)]);
     }
     if call == Call::JudgeMend {
         all.push(half_changed_input());
@@ -409,8 +443,8 @@ fn inputs_of_one(call: Call) -> Vec<Input> {
 
 fn inputs_of_two(call: Call) -> Vec<Input> {
     let mut all = vec![sample(TWO, &SAMPLES_OF_TWO), ordinary_input(call, TWO), largest(call, TWO)];
-    if has_scattered(call) {
-        all.push(scattered_input(TWO));
+    if judges(call) {
+        all.extend([scattered_input(TWO), ordinary_counted(TWO), largest_counted(TWO)]);
     }
     all
 }
@@ -422,23 +456,38 @@ pub fn inputs(call: Call) -> Vec<Input> {
     all
 }
 
-/// Tables in which E doubles, then C, then V, with the worst marks for a call.
+/// E, C and how many types are choices: E doubles, then C, then V.
+const DOUBLING: [(usize, usize, usize); 10] = [
+    (32, 256, 1),
+    (64, 256, 1),
+    (128, 256, 1),
+    (256, 256, 1),
+    (256, 512, 1),
+    (256, 1024, 1),
+    (256, 1024, 2),
+    (256, 1024, 4),
+    (256, 1024, 8),
+    (256, 1024, 16),
+];
+
+/// Tables that double, with the worst marks for a call; then such tables below a star that is broken.
 pub fn doubling(call: Call) -> Vec<Input> {
-    let sizes = [
-        (32, 256, 1),
-        (64, 256, 1),
-        (128, 256, 1),
-        (256, 256, 1),
-        (256, 512, 1),
-        (256, 1024, 1),
-        (256, 1024, 2),
-        (256, 1024, 4),
-        (256, 1024, 8),
-        (256, 1024, 16),
-    ];
-    let input = |&(e, c, choices): &(usize, usize, usize)| Input {
+    let input = |(e, c, choices)| Input {
         name: format!("E{}-C{}-V{}", e, c, 240 * choices + 16),
         cases: vec![worst(call, sized(ONE, e, c, choices))],
     };
-    sizes.iter().map(input).collect()
+    DOUBLING.into_iter().map(input).chain(doubling_counted()).collect()
+}
+
+/// All but the star's insert and delete are forbidden, and counted. The star is a type and has a child, so that the largest
+/// tables below it are smaller by a type and 16 children.
+fn doubling_counted() -> Vec<Input> {
+    let input = |(e, c, choices): (usize, usize, usize)| {
+        let below = sized(ONE, e.min(255), c.min(1008), choices);
+        let marks = vec![FORBIDDEN; v_of(&below)];
+        let case = counted(ONE, decode(&below), marks);
+        let [e, c, v] = [2, 5, 7].map(|word| case.words[word]);
+        Input { name: format!("star-E{}-C{}-V{}", e, c, v), cases: vec![case] }
+    };
+    DOUBLING.into_iter().map(input).collect()
 }

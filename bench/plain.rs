@@ -7,8 +7,8 @@ use second::{cases, completing, conditions, dtd, mending, table};
 
 fn outcome_of(outcome: second::answers::Outcome) -> Outcome {
     let Answer { number, place, count, breach } = answer(outcome);
-    let Breach { condition, of, i, j, privilege } = breach;
-    Outcome { number, place, count, condition, element: of, i, j, privilege }
+    let Breach { condition, of, i, j, privilege, forbidden } = breach;
+    Outcome { number, place, count, condition, element: of, i, j, privilege, forbidden }
 }
 
 pub fn check_table(words: &[u16]) -> Outcome {
