@@ -6,6 +6,14 @@
 
 #include "finnedscarf.h"
 
+static void say_chain(finnedscarf_outcome o)
+{
+    printf(" (");
+    for (size_t k = 0; k < o.chain_length; k++)
+        printf(k == 0 ? "%d" : " to %d", o.chain[k]);
+    putchar(')');
+}
+
 static void say_breach(finnedscarf_outcome o)
 {
     switch (o.condition) {
@@ -15,14 +23,14 @@ static void say_breach(finnedscarf_outcome o)
                o.type, o.privilege);
         break;
     case FINNEDSCARF_CHAIN:
-        printf("condition 2 at type %zu: allowed replacements lead from position %zu to %zu, and privilege %zu, that replacement, is "
-               "forbidden",
-               o.type, o.i, o.j, o.privilege);
+        printf("condition 2 at type %zu: allowed replacements lead from position %zu to %zu", o.type, o.i, o.j);
+        say_chain(o);
+        printf(", and privilege %zu, that replacement, is forbidden", o.privilege);
         break;
     case FINNEDSCARF_CYCLE:
-        printf("condition 3 at type %zu: allowed replacements lead from position %zu back to it, and privilege %zu below the child there "
-               "is forbidden",
-               o.type, o.i, o.privilege);
+        printf("condition 3 at type %zu: allowed replacements lead from position %zu back to it", o.type, o.i);
+        say_chain(o);
+        printf(", and privilege %zu below the child there is forbidden", o.privilege);
         break;
     }
     if (o.forbidden > 1)

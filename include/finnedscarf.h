@@ -94,19 +94,23 @@ enum {
     FINNEDSCARF_CYCLE = 3          /* at a choice, allowed replacements lead from i back to i, and a privilege below it is forbidden */
 };
 
-/* What a call answers. The last six tell the breach, and are 0 where there is none. */
+/* What a call answers. All from `condition` on tells the breach, and is 0 where there is none. */
 typedef struct {
-    size_t number;    /* FINNEDSCARF_DONE, or why the call was refused */
-    size_t place;     /* as said at the number */
-    size_t count;     /* marks taken away or changed; 0 in a refusal */
-    size_t condition; /* FINNEDSCARF_NONE to FINNEDSCARF_CYCLE */
-    size_t type;      /* the type at which it is broken */
-    size_t i;         /* position; 0 for condition 1 */
-    size_t j;         /* position; 0 for condition 1, and i for condition 3 */
-    size_t privilege; /* the forbidden replacement for condition 2, the star's replace for condition 1 if that is forbidden, else the
-                         lowest forbidden privilege below the child */
-    size_t forbidden; /* how many are forbidden there: 1 for condition 2, and for condition 1 if the star's replace is forbidden, else all
-                         forbidden privileges below the child, each counted once even if two paths lead to it */
+    size_t number;       /* FINNEDSCARF_DONE, or why the call was refused */
+    size_t place;        /* as said at the number */
+    size_t count;        /* marks taken away or changed; 0 in a refusal */
+    size_t condition;    /* FINNEDSCARF_NONE to FINNEDSCARF_CYCLE */
+    size_t type;         /* the type at which it is broken */
+    size_t i;            /* position; 0 for condition 1 */
+    size_t j;            /* position; 0 for condition 1, and i for condition 3 */
+    size_t privilege;    /* the forbidden replacement for condition 2, the star's replace for condition 1 if that is forbidden, else the
+                            lowest forbidden privilege below the child */
+    size_t forbidden;    /* how many are forbidden there: 1 for condition 2, and for condition 1 if the star's replace is forbidden, else
+                            all forbidden privileges below the child, each counted once even if two paths lead to it */
+    size_t chain_length; /* how many positions the chain has: 3 to 17 for condition 2, 2 to 17 for condition 3; 0 for condition 1 */
+    uint8_t chain[17];   /* the steps of conditions 2 and 3: the fewest allowed replacements from i to j, as positions with both ends, from
+                            chain[0], which is i, to chain[chain_length - 1], which is j, each to be replaced by the next; among equally
+                            few the lowest position at the first difference; 0 in unused places */
 } finnedscarf_outcome;
 
 /* Checks a table: 0 with V as place, or 1 to 9 or 19. */
@@ -122,7 +126,7 @@ finnedscarf_outcome finnedscarf_check_table(const uint16_t *words, size_t words_
 finnedscarf_outcome finnedscarf_read_dtd(const uint8_t *text, size_t text_length, uint16_t *out, size_t out_length);
 
 /*
- * Judges a policy: 0 with the first breach, six zeros if it is clean, or 1 to 11 or 19. The first is that of the lowest type; there condition 2
+ * Judges a policy: 0 with the first breach, zeros if it is clean, or 1 to 11 or 19. The first is that of the lowest type; there condition 2
  * comes before 3, and then the lowest i, and then the lowest j.
  */
 finnedscarf_outcome finnedscarf_judge_policy(const uint16_t *words, size_t words_length, const uint8_t *marks, size_t marks_length);

@@ -1,5 +1,7 @@
 // What a call answers, and how it is refused.
 
+use crate::chain::Chain;
+
 #[derive(Clone, Copy, Debug, Default, PartialEq)]
 pub struct Breach {
     pub condition: usize,
@@ -9,6 +11,8 @@ pub struct Breach {
     pub privilege: usize,
     /// How many privileges are forbidden there (request 8).
     pub forbidden: usize,
+    /// The steps from i to j (request 6).
+    pub chain: Chain,
 }
 
 #[derive(Clone, Copy, Debug, Default, PartialEq)]
@@ -44,13 +48,26 @@ pub fn refuse_breach(breach: Option<Breach>) -> Result<(), Answer> {
     }
 }
 
-/// The numbers of a breach that the program judge prints: all but the last.
-pub fn breach_text(breach: &Breach) -> String {
+fn spot_text(breach: &Breach) -> String {
     let Breach { condition, of, i, j, privilege, .. } = breach;
     format!("{} {} {} {} {}", condition, of, i, j, privilege)
 }
 
+/// What the program judge prints of a breach: all but its count, and of the chain the positions.
+pub fn breach_text(breach: &Breach) -> String {
+    let positions = breach.chain.positions().iter();
+    spot_text(breach) + &positions.map(|position| format!(" {}", position)).collect::<String>()
+}
+
+/// All numbers of an answer, the chain's length last, and then its places.
 pub fn answer_text(answer: &Answer) -> String {
     let Answer { number, place, count, breach } = answer;
-    format!("{} {} {} {} {}", number, place, count, breach_text(breach), breach.forbidden)
+    let Breach { forbidden, chain, .. } = breach;
+    let breach = format!("{} {} {} {}", spot_text(breach), forbidden, chain.length, hex(&chain.places));
+    format!("{} {} {} {}", number, place, count, breach)
+}
+
+/// Two hexadecimal digits a byte.
+pub fn hex(bytes: &[u8]) -> String {
+    bytes.iter().map(|byte| format!("{:02x}", byte)).collect()
 }

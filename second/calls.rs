@@ -1,6 +1,6 @@
 // What every call on cases has: a name, the numbers that it can give, how it is made, and what it tells.
 
-use crate::answers::{answer, answer_text, Answer, Outcome};
+use crate::answers::{answer, answer_text, hex, Answer, Outcome};
 
 /// The numbers of the table's checks in their order, done among them.
 pub const TABLE: &[usize] = &[0, 1, 2, 3, 4, 5, 6, 7, 19, 8, 9];
@@ -34,13 +34,9 @@ impl Told {
         Told { answer: answer(outcome), written }
     }
 
-    /// The nine numbers of the answer, and each run, two hexadecimal digits a byte.
+    /// The answer, and each run, two hexadecimal digits a byte.
     pub fn text(&self) -> String {
         let run = |bytes: &Vec<u8>| format!(" {}", hex(bytes));
         answer_text(&self.answer) + &self.written.iter().map(run).collect::<String>()
     }
-}
-
-fn hex(bytes: &[u8]) -> String {
-    bytes.iter().map(|byte| format!("{:02x}", byte)).collect()
 }

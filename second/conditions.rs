@@ -1,6 +1,7 @@
 // The three conditions: what they force, the first breach, and the call `verdict`.
 
 use crate::answers::{refuse_at, refuse_if, Answer, Breach, Outcome};
+use crate::chain::{chain, Chain};
 use crate::forbidden_below::forbidden_below;
 use crate::table::{check_table, Table, ALLOWED, CHOICE, FORBIDDEN, STAR};
 
@@ -87,11 +88,19 @@ fn count_at(table: &Table, marks: &[u8], at: &Forced) -> usize {
     }
 }
 
+/// The steps of conditions 2 and 3; condition 1 has none.
+fn chain_at(table: &Table, marks: &[u8], at: &Forced) -> Chain {
+    match at.condition {
+        1 => Chain::default(),
+        _ => chain(table, marks, at.of, at.i, at.j),
+    }
+}
+
 pub fn first_breach(table: &Table, marks: &[u8]) -> Option<Breach> {
     let at = forced(table, marks).find(|it| marks[it.privilege] == FORBIDDEN)?;
-    let forbidden = count_at(table, marks, &at);
+    let (forbidden, chain) = (count_at(table, marks, &at), chain_at(table, marks, &at));
     let Forced { condition, of, i, j, privilege } = at;
-    Some(Breach { condition, of, i, j, privilege, forbidden })
+    Some(Breach { condition, of, i, j, privilege, forbidden, chain })
 }
 
 /// The table's numbers, then 10 and 11.

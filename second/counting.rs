@@ -1,4 +1,4 @@
-// How often each call gave each number and each condition, and how often each situation of requests 8 and 9 came.
+// How often each call gave each number and each condition, and how often each situation of requests 6, 8 and 9 came.
 
 use crate::answers::Answer;
 use crate::calls::{Call, POLICY, TABLE};
@@ -6,7 +6,7 @@ use crate::cases::{read_cases, Case};
 use crate::dtd_case;
 use crate::format::Format;
 use crate::policy_case::{self, PolicyCase};
-use crate::situations::{Situations, OF_COUNTS, OF_FORMAT_TWO};
+use crate::situations::{Situations, OF_CHAINS, OF_COUNTS, OF_FORMAT_TWO};
 use std::collections::BTreeMap;
 
 /// The numbers in the order of the checks.
@@ -152,12 +152,14 @@ pub struct Overview {
     of_two: Counts,
     format_two: Found,
     counts: Found,
+    chains: Found,
 }
 
 impl Overview {
     pub fn of(cases: impl Iterator<Item = Case>) -> Overview {
-        let (format_two, counts) = (Found::new(OF_FORMAT_TWO), Found::new(OF_COUNTS));
-        let mut overview = Overview { all: Counts::new(), of_two: Counts::new(), format_two, counts };
+        let (all, of_two) = (Counts::new(), Counts::new());
+        let [format_two, counts, chains] = [OF_FORMAT_TWO, OF_COUNTS, OF_CHAINS].map(Found::new);
+        let mut overview = Overview { all, of_two, format_two, counts, chains };
         cases.for_each(|case| overview.add(&case));
         overview
     }
@@ -173,6 +175,7 @@ impl Overview {
         if let Some(policy) = case.policy() {
             self.format_two.add(policy);
             self.counts.add(policy);
+            self.chains.add(policy);
         }
     }
 
@@ -186,10 +189,15 @@ impl Overview {
         self.counts.fewest()
     }
 
+    /// The fewest of the situations of request 6.
+    pub fn fewest_of_chains(&self) -> usize {
+        self.chains.fewest()
+    }
+
     fn text(&self) -> String {
-        let Overview { all, of_two, format_two, counts } = self;
+        let Overview { all, of_two, format_two, counts, chains } = self;
         let tables = format!("{}\nof format 2\n{}", all.text(), of_two.text());
-        format!("{}\n{}\n{}", tables, format_two.text(), counts.text())
+        format!("{}\n{}\n{}\n{}", tables, format_two.text(), counts.text(), chains.text())
     }
 }
 

@@ -1,5 +1,6 @@
 // Making cases: the same ones for the same seed.
 
+mod chains;
 pub mod chance;
 pub mod cycles;
 mod damage;
@@ -60,13 +61,14 @@ fn any_case(r: &mut Random, format: Format) -> PolicyCase {
     case_of(r, &schema)
 }
 
-/// Policy k of format 1: in its turn a chain or a cycle of 256 types or a full table, else what chance gives.
+/// Policy k of format 1: in its turn a chain or a cycle of 256 types, a full table, or one made for a breach's chain, else what chance gives.
 fn make_policy(r: &mut Random, k: usize) -> PolicyCase {
     match k % 480 {
         40 | 280 => chain_case(r, Format::One, true),
         160 | 400 => chain_case(r, Format::One, false),
         80 | 200 | 320 | 440 => cycle_case(r, Format::One),
         240 => full_case(r, Format::One),
+        n if n % 24 == 12 => chains::case(r, Format::One, k / 24),
         _ => any_case(r, Format::One),
     }
 }

@@ -4,6 +4,7 @@
 pub mod answers;
 pub mod calls;
 pub mod cases;
+pub mod chain;
 pub mod completing;
 pub mod conditions;
 pub mod counting;

@@ -1,5 +1,6 @@
 // The second program's check of itself.
 
+mod chains;
 mod counts;
 pub mod dtds;
 mod every;
@@ -11,9 +12,12 @@ mod second_format;
 mod tables;
 mod tickets;
 
+use crate::answers::Breach;
+use crate::chain::Chain;
 use crate::fail;
 use crate::format::Format;
 use crate::making::chance::Random;
+use chains::self_chains;
 use counts::self_counts;
 use dtds::self_dtds;
 use every::self_every;
@@ -30,6 +34,16 @@ fn expect(holds: bool, what: &str) {
     if !holds {
         fail(&format!("differs: {}", what));
     }
+}
+
+/// A breach worked out by hand: condition, type, i, j, privilege and count; and the positions of its chain.
+type ByHand = ([usize; 6], &'static [usize]);
+
+const CLEAN: ByHand = ([0; 6], &[]);
+
+fn by_hand((numbers, positions): ByHand) -> Breach {
+    let [condition, of, i, j, privilege, forbidden] = numbers;
+    Breach { condition, of, i, j, privilege, forbidden, chain: Chain::of(positions) }
 }
 
 /// Small tables by chance.
@@ -76,8 +90,9 @@ pub fn self_check(seed: u64, count: usize) -> String {
     self_samples();
     self_named_tables();
     self_forbidden_below();
+    self_chains();
     [
-        "self: S1 to S10 in both numberings, samples of format 2, known counts and the named tables hold\n"
+        "self: S1 to S10 in both numberings, samples of format 2, known counts, known chains and the named tables hold\n"
             .to_string(),
         self_format(seed, Format::One, count),
         self_format(seed, Format::Two, count),

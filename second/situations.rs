@@ -1,6 +1,7 @@
-// What requests 8 and 9 bring besides numbers and conditions: the situations that a case can be in, by name.
+// What requests 6, 8 and 9 bring besides numbers and conditions: the situations that a case can be in, by name.
 
 mod breaches;
+mod chains;
 mod completions;
 mod counts;
 mod mends;
@@ -20,6 +21,13 @@ pub struct Situations {
     pub names: fn() -> Vec<&'static str>,
     pub found: fn(&PolicyCase) -> Vec<&'static str>,
 }
+
+/// Request 6: in both formats.
+pub const OF_CHAINS: Situations = Situations {
+    of: "the chain",
+    names: || names_of(chains::SITUATIONS),
+    found: |case| Policy::of(case).map_or(Vec::new(), |policy| found_in(&policy, chains::SITUATIONS)),
+};
 
 /// Request 8: in both formats.
 pub const OF_COUNTS: Situations = Situations {
@@ -60,9 +68,10 @@ fn policies_in(case: &PolicyCase) -> Vec<&'static str> {
     Policy::of_two(case).map_or(Vec::new(), |policy| found_in(&policy, &OF_POLICIES.concat()))
 }
 
-/// Whether a case is in this situation of a policy of format 2.
+/// Whether a case is in this situation of a policy: of a chain, or of format 2, which is then the case's own.
 pub fn is_in(case: &PolicyCase, name: &str) -> bool {
-    let situation = OF_POLICIES.concat().into_iter().find(|situation| situation.0 == name);
+    let all = [OF_POLICIES.concat(), chains::SITUATIONS.to_vec()].concat();
+    let situation = all.into_iter().find(|situation| situation.0 == name);
     let holds = situation.expect("a situation of that name").1;
-    Policy::of_two(case).map_or(false, |policy| holds(&policy))
+    Policy::of(case).map_or(false, |policy| holds(&policy))
 }

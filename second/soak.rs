@@ -1,4 +1,4 @@
-// Holds the exported library to the second program on fresh cases: each call, all numbers of its answer, and every lent run afterwards.
+// Holds the exported library to the second program on fresh cases: each call, all of its answer, and every lent run afterwards.
 // second/soak builds it and runs it with SEED, COUNT, DTDS, SECOND_FORMAT and the folder where a case that differs is kept.
 
 #[path = "../bindings/rust/src/border.rs"]
@@ -7,6 +7,7 @@ mod border;
 use second::answers::{Answer, Breach, Outcome};
 use second::calls::{Call, Told};
 use second::cases::{write_cases, Case};
+use second::chain::Chain;
 use second::counting::Counts;
 use second::dtd_case::{self, DtdCase};
 use second::making;
@@ -14,8 +15,9 @@ use second::policy_case::{self, PolicyCase};
 use std::hint::black_box;
 
 fn outcome_of(told: border::Outcome) -> Outcome {
-    let border::Outcome { number, place, count, condition, element, i, j, privilege, forbidden } = told;
-    let breach = Breach { condition, of: element, i, j, privilege, forbidden };
+    let border::Outcome { number, place, count, condition, element, i, j, privilege, forbidden, .. } = told;
+    let chain = Chain { length: told.chain_length, places: told.chain };
+    let breach = Breach { condition, of: element, i, j, privilege, forbidden, chain };
     let answer = Answer { number, place, count, breach };
     if number == 0 {
         Ok(answer)

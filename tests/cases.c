@@ -108,8 +108,10 @@ static int more(void)
 
 static void put_outcome(size_t number, const char *call, finnedscarf_outcome o)
 {
-    printf("%zu %s %s %zu %zu %s %zu %zu %zu %zu %zu", number, call, number_text(o.number), o.place, o.count,
-           condition_text(o.condition), o.type, o.i, o.j, o.privilege, o.forbidden);
+    printf("%zu %s %s %zu %zu %s %zu %zu %zu %zu %zu %zu ", number, call, number_text(o.number), o.place, o.count,
+           condition_text(o.condition), o.type, o.i, o.j, o.privilege, o.forbidden, o.chain_length);
+    for (size_t k = 0; k < sizeof o.chain; k++)
+        printf("%02x", o.chain[k]);
 }
 
 static void put_run(const uint8_t *run, size_t length)

@@ -33,17 +33,23 @@ impl Stream {
     }
 }
 
-/// The six numbers of a breach, zeros where there is none.
+/// The length of a chain, and its positions with zeros behind them.
+fn chain_text(chain: &[u8]) -> String {
+    let places: String = chain.iter().map(|position| format!("{position:02x}")).collect();
+    format!("{} {places:0<34}", chain.len())
+}
+
+/// The six numbers of a breach and its chain, zeros where there is none.
 fn breach_text(breach: Option<Breach>) -> String {
-    let Some(Breach { condition, element, i, j, privilege, forbidden }) = breach else {
-        return "0 0 0 0 0 0".to_string();
+    let Some(Breach { condition, element, i, j, privilege, forbidden, chain }) = breach else {
+        return "0 0 0 0 0 0 ".to_string() + &chain_text(&[]);
     };
     let number = match condition {
         Condition::InsertDelete => 1,
         Condition::Chain => 2,
         Condition::Cycle => 3,
     };
-    format!("{number} {element} {i} {j} {privilege} {forbidden}")
+    format!("{number} {element} {i} {j} {privilege} {forbidden} {}", chain_text(&chain))
 }
 
 /// What a done call tells; what it has no word for is 0.

@@ -117,7 +117,10 @@ static finnedscarf_outcome by_address(int call, struct runs r)
 
 static int has_breach(finnedscarf_outcome o)
 {
-    return o.condition || o.type || o.i || o.j || o.privilege || o.forbidden;
+    int chained = o.chain_length != 0;
+    for (size_t k = 0; k < sizeof o.chain; k++)
+        chained = chained || o.chain[k];
+    return o.condition || o.type || o.i || o.j || o.privilege || o.forbidden || chained;
 }
 
 /* Makes a call in which some runs are empty: those of `none`, which are all empty. */

@@ -16,6 +16,6 @@ fn main() -> io::Result<()> {
         Err(refusal) => panic!("{refusal}"),
     };
     let words: String = out.iter().map(|word| format!(" {word}")).collect();
-    println!("{number} {place} 0 0 0 0 0 0 0{words}");
+    println!("{number} {place} 0 0 0 0 0 0 0 0 {:034}{words}", 0);
     Ok(())
 }

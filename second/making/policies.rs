@@ -24,7 +24,7 @@ const MIXES: [[usize; 3]; 13] = [
     [0, 1, 0],
 ];
 
-fn mixed(r: &mut Random, v: usize, mix: [usize; 3]) -> Vec<u8> {
+pub fn mixed(r: &mut Random, v: usize, mix: [usize; 3]) -> Vec<u8> {
     let mut urn = Vec::new();
     for mark in [UNSET, ALLOWED, FORBIDDEN] {
         urn.extend(vec![mark; mix[mark as usize]]);

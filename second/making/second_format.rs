@@ -1,5 +1,6 @@
 // Cases of format 2 and of other words 0: some at fixed turns, the others made for each answer and each situation of format 2 in turn.
 
+use super::chains;
 use super::chance::Random;
 use super::damage::{many_over, one_over};
 use super::schemas::{numbered, schema, Schema};
@@ -137,8 +138,8 @@ fn many_over_case(r: &mut Random) -> PolicyCase {
     table_case(r, types)
 }
 
-/// At fixed turns full tables and fuller ones, another word 0, tables that both formats take, chains and cycles of 256 types; else
-/// what chance gives.
+/// At fixed turns full tables and fuller ones, another word 0, tables that both formats take, chains and cycles of 256 types, policies made
+/// for a breach's chain; else what chance gives.
 fn case_in_turn(r: &mut Random, turn: usize) -> PolicyCase {
     match turn % 20 {
         0 => full_case(r, turn % 40 == 0),
@@ -153,6 +154,7 @@ fn case_in_turn(r: &mut Random, turn: usize) -> PolicyCase {
         9 => even_case(r, Format::Two),
         10 if turn % 40 == 10 => chain_case(r, Format::Two, turn % 80 == 10),
         11 => cycle_case(r, Format::Two),
+        12..=15 => chains::case(r, Format::Two, turn / 20 * 4 + turn % 20 - 12),
         _ => any_case(r, Format::Two),
     }
 }

@@ -1,9 +1,9 @@
 // How many are forbidden below, worked out by hand: types that two paths lead to, many privileges, what is not counted.
 
 use super::every::{schema, Shape};
-use super::expect;
 use super::policies::self_refusals;
-use crate::answers::{Answer, Breach};
+use super::{by_hand, expect, ByHand, CLEAN};
+use crate::answers::Answer;
 use crate::conditions::verdict;
 use crate::forbidden_below::{forbidden_below, ForbiddenBelow};
 use crate::format::Format;
@@ -11,8 +11,8 @@ use crate::making::schemas::Schema;
 use crate::mending::judge_mend;
 use crate::table::{check_table, Type, CHOICE, EMPTY, FORBIDDEN, SEQUENCE, STAR, TEXT};
 
-/// A name, the format, the types, the marks, and the breach with its count.
-type Known = (&'static str, Format, Shape, &'static [u8], [usize; 6]);
+/// A name, the format, the types, the marks, and the breach.
+pub type Known = (&'static str, Format, Shape, &'static [u8], ByHand);
 
 /// A star of an element with two texts.
 const TWO_TEXTS: Shape = &[(STAR, &[1]), (SEQUENCE, &[2, 3]), (TEXT, &[]), (TEXT, &[])];
@@ -35,44 +35,78 @@ const TEXTS_AT_CHOICE: Shape = &[
 ];
 
 const KNOWN: [Known; 14] = [
-    ("nothing forbidden", Format::One, TWO_TEXTS, &[1, 1, 0, 1], [0; 6]),
-    ("one of two texts", Format::One, TWO_TEXTS, &[1, 1, 0, 2], [1, 0, 0, 0, 3, 1]),
-    ("both texts", Format::One, TWO_TEXTS, &[1, 1, 2, 2], [1, 0, 0, 0, 2, 2]),
-    ("insert, delete and both texts", Format::Two, TWO_TEXTS, &[1, 1, 0, 2, 2], [1, 0, 0, 0, 3, 2]),
-    ("the exchange alone and both texts", Format::Two, TWO_TEXTS, &[2, 2, 1, 2, 2], [1, 0, 0, 0, 3, 2]),
-    ("the exchange forbidden, and both texts", Format::Two, TWO_TEXTS, &[1, 1, 2, 2, 2], [1, 0, 0, 0, 2, 1]),
-    ("a star above a shared text", Format::One, SHARED_AT_STAR, &[1, 1, 2], [1, 0, 0, 0, 2, 1]),
-    ("a choice above a shared text", Format::One, SHARED_AT_CHOICE, &[1, 1, 2], [3, 0, 0, 0, 2, 1]),
-    ("the first kind's texts", Format::One, TEXTS_AT_CHOICE, &[1, 1, 0, 2, 2, 2], [3, 0, 0, 0, 3, 2]),
-    ("the second kind's texts", Format::Two, TEXTS_AT_CHOICE, &[0, 0, 0, 1, 0, 0, 2, 2], [3, 0, 1, 1, 6, 2]),
-    ("the same kind forbidden", Format::Two, TEXTS_AT_CHOICE, &[2, 1, 1, 0, 2, 2, 2, 2], [2, 0, 0, 0, 0, 1]),
+    ("nothing forbidden", Format::One, TWO_TEXTS, &[1, 1, 0, 1], CLEAN),
+    ("one of two texts", Format::One, TWO_TEXTS, &[1, 1, 0, 2], ([1, 0, 0, 0, 3, 1], &[])),
+    ("both texts", Format::One, TWO_TEXTS, &[1, 1, 2, 2], ([1, 0, 0, 0, 2, 2], &[])),
+    ("insert, delete and both texts", Format::Two, TWO_TEXTS, &[1, 1, 0, 2, 2], ([1, 0, 0, 0, 3, 2], &[])),
+    (
+        "the exchange alone and both texts",
+        Format::Two,
+        TWO_TEXTS,
+        &[2, 2, 1, 2, 2],
+        ([1, 0, 0, 0, 3, 2], &[]),
+    ),
+    (
+        "the exchange forbidden, and both texts",
+        Format::Two,
+        TWO_TEXTS,
+        &[1, 1, 2, 2, 2],
+        ([1, 0, 0, 0, 2, 1], &[]),
+    ),
+    ("a star above a shared text", Format::One, SHARED_AT_STAR, &[1, 1, 2], ([1, 0, 0, 0, 2, 1], &[])),
+    (
+        "a choice above a shared text",
+        Format::One,
+        SHARED_AT_CHOICE,
+        &[1, 1, 2],
+        ([3, 0, 0, 0, 2, 1], &[0, 1, 0]),
+    ),
+    (
+        "the first kind's texts",
+        Format::One,
+        TEXTS_AT_CHOICE,
+        &[1, 1, 0, 2, 2, 2],
+        ([3, 0, 0, 0, 3, 2], &[0, 1, 0]),
+    ),
+    (
+        "the second kind's texts",
+        Format::Two,
+        TEXTS_AT_CHOICE,
+        &[0, 0, 0, 1, 0, 0, 2, 2],
+        ([3, 0, 1, 1, 6, 2], &[1, 1]),
+    ),
+    (
+        "the same kind forbidden",
+        Format::Two,
+        TEXTS_AT_CHOICE,
+        &[2, 1, 1, 0, 2, 2, 2, 2],
+        ([2, 0, 0, 0, 0, 1], &[0, 1, 0]),
+    ),
     (
         "a chain, with more forbidden",
         Format::One,
         &[(CHOICE, &[1, 2, 3]), (TEXT, &[]), (TEXT, &[]), (TEXT, &[])],
         &[1, 2, 0, 1, 2, 0, 2, 2, 2],
-        [2, 0, 0, 2, 1, 1],
+        ([2, 0, 0, 2, 1, 1], &[0, 1, 2]),
     ),
     (
         "the child's own delete",
         Format::One,
         &[(STAR, &[1]), (STAR, &[2]), (TEXT, &[])],
         &[1, 1, 1, 2, 2],
-        [1, 0, 0, 0, 3, 2],
+        ([1, 0, 0, 0, 3, 2], &[]),
     ),
     (
         "a text beside the star",
         Format::One,
         &[(SEQUENCE, &[1, 2]), (STAR, &[3]), (TEXT, &[]), (TEXT, &[])],
         &[1, 1, 2, 2],
-        [1, 1, 0, 0, 3, 1],
+        ([1, 1, 0, 0, 3, 1], &[]),
     ),
 ];
 
-fn self_breach(schema: &Schema, marks: &[u8], told: [usize; 6], name: &str) {
-    let words = schema.words();
-    let [condition, of, i, j, privilege, forbidden] = told;
-    let breach = Breach { condition, of, i, j, privilege, forbidden };
+pub fn self_breach(schema: &Schema, marks: &[u8], told: ByHand, name: &str) {
+    let (words, breach) = (schema.words(), by_hand(told));
     expect(verdict(&words, marks) == Ok(Answer { breach, ..Answer::default() }), name);
     self_refusals(&words, marks);
 }
@@ -97,16 +131,16 @@ fn thirty_texts(format: Format) -> Schema {
 }
 
 /// The 30 texts forbidden, and these marks at the star.
-fn self_thirty(format: Format, star: &[u8], told: [usize; 6], name: &str) {
+fn self_thirty(format: Format, star: &[u8], told: ByHand, name: &str) {
     let marks = [star, &[FORBIDDEN; 30][..]].concat();
     self_breach(&thirty_texts(format), &marks, told, name);
 }
 
 fn self_large() {
-    self_breach(&diamonds(8), &[1, 1, 2], [1, 0, 0, 0, 2, 1], "a text at the end of 256 paths");
-    self_thirty(Format::One, &[1, 1], [1, 0, 0, 0, 2, 30], "30 texts");
-    self_thirty(Format::Two, &[2, 1, 1], [1, 0, 0, 0, 3, 30], "30 texts in format 2");
-    self_thirty(Format::Two, &[1, 1, 2], [1, 0, 0, 0, 2, 1], "the exchange forbidden, and 30 texts");
+    self_breach(&diamonds(8), &[1, 1, 2], ([1, 0, 0, 0, 2, 1], &[]), "a text at the end of 256 paths");
+    self_thirty(Format::One, &[1, 1], ([1, 0, 0, 0, 2, 30], &[]), "30 texts");
+    self_thirty(Format::Two, &[2, 1, 1], ([1, 0, 0, 0, 3, 30], &[]), "30 texts in format 2");
+    self_thirty(Format::Two, &[1, 1, 2], ([1, 0, 0, 0, 2, 1], &[]), "the exchange forbidden, and 30 texts");
 }
 
 /// The question of each type of the choice above two elements with texts.
@@ -123,7 +157,7 @@ fn self_question() {
 /// A proposal that forbids the other text too: both are counted.
 fn self_proposed() {
     let words = schema(Format::One, TWO_TEXTS).words();
-    let breach = Breach { condition: 1, of: 0, i: 0, j: 0, privilege: 2, forbidden: 2 };
+    let breach = by_hand(([1, 0, 0, 0, 2, 2], &[]));
     let refusal = judge_mend(&words, &[1, 1, 1, 2], &[1, 1, 2, 2]);
     expect(refusal == Err(Answer { number: 16, breach, ..Answer::default() }), "what is proposed is counted");
 }

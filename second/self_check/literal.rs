@@ -88,6 +88,25 @@ fn choice_breaches(table: &Table, marks: &[u8], t: usize, found: &mut Vec<[usize
     }
 }
 
+/// Of all lists of positions, the shorter before the longer and then the lower at the first difference, the first that goes from i to j
+/// by allowed replacements.
+pub fn chain(table: &Table, marks: &[u8], t: usize, i: usize, j: usize) -> Vec<usize> {
+    let n = table.types[t].children.len();
+    let list = |length: u32, k: usize| (0..length).rev().map(|place| k / n.pow(place) % n).collect();
+    let step = |two: &[usize]| allows(table, marks, t, two[0], two[1]);
+    let fits =
+        |way: &Vec<usize>| (way.first(), way.last()) == (Some(&i), Some(&j)) && way.windows(2).all(step);
+    let mut all = (2..).flat_map(|length| (0..n.pow(length)).map(move |k| list(length, k)));
+    all.find(fits).expect("a way from i to j, which is reached from i")
+}
+
+/// The positions of a choice of which the second is reached from the first.
+pub fn reached_pairs(table: &Table, marks: &[u8], t: usize) -> Vec<(usize, usize)> {
+    let leads = closure(table, marks, t);
+    let pairs = (0..leads.len()).flat_map(|i| (0..leads.len()).map(move |j| (i, j)));
+    pairs.filter(|&(i, j)| leads[i][j]).collect()
+}
+
 pub fn passes(table: &Table, marks: &[u8]) -> bool {
     breaches(table, marks).is_empty()
 }

@@ -1,9 +1,10 @@
 // Small policies: against what is read literally, against all their fully decided extensions, in another numbering and in format 2.
 
 use super::expect;
-use super::literal::{self, breaches, count_there, mended_literally, passes};
+use super::literal::{self, breaches, count_there, mended_literally, passes, reached_pairs};
 use super::tickets::self_tickets;
 use crate::answers::{answer, Answer, Breach};
+use crate::chain::{chain, Chain};
 use crate::completing::complete;
 use crate::conditions::{first_breach, verdict};
 use crate::forbidden_below::{forbidden_below, ForbiddenBelow};
@@ -12,13 +13,15 @@ use crate::making::chance::Random;
 use crate::making::policies::policy;
 use crate::making::schemas::{chance_numbers, schema, Schema};
 use crate::mending::{judge_mend, mend, mended};
-use crate::table::{check_table, Table, ALLOWED, FORBIDDEN, UNSET};
+use crate::table::{check_table, Table, ALLOWED, CHOICE, FORBIDDEN, UNSET};
 
 fn self_verdict(words: &[u16], table: &Table, marks: &[u8]) {
     let all = breaches(table, marks);
     let least = all.iter().min().copied().unwrap_or_default();
     let [of, condition, i, j, privilege] = least;
-    let breach = Breach { condition, of, i, j, privilege, forbidden: count_there(&all, &least) };
+    let steps = if condition > 1 { literal::chain(table, marks, of, i, j) } else { Vec::new() };
+    let (forbidden, chain) = (count_there(&all, &least), Chain::of(&steps));
+    let breach = Breach { condition, of, i, j, privilege, forbidden, chain };
     expect(verdict(words, marks) == Ok(Answer { breach, ..Answer::default() }), "the first breach");
 }
 
@@ -38,6 +41,20 @@ fn self_below(table: &Table, marks: &[u8]) {
         let lowest = forbidden.first().copied().unwrap_or(0);
         let expected = ForbiddenBelow { lowest, count: forbidden.len() };
         expect(forbidden_below(table, marks, y) == expected, "what is forbidden below a type");
+    }
+}
+
+fn choices(table: &Table) -> impl Iterator<Item = usize> + '_ {
+    (0..table.types.len()).filter(|&t| table.types[t].kind == CHOICE)
+}
+
+/// The chain from each position of a small choice to each that is reached from it.
+fn self_chains(table: &Table, marks: &[u8]) {
+    for t in choices(table).filter(|&t| table.types[t].children.len() <= 4) {
+        for (i, j) in reached_pairs(table, marks, t) {
+            let steps = literal::chain(table, marks, t, i, j);
+            expect(chain(table, marks, t, i, j) == Chain::of(&steps), "the chain from i to j");
+        }
     }
 }
 
@@ -112,7 +129,8 @@ fn carried(from: &Table, to: &Table, numbers: &[usize], marks: &[u8]) -> Vec<u8>
     after
 }
 
-/// In another numbering a policy is clean as it was, its completion is the same, and as many privileges are forbidden below each type.
+/// In another numbering a policy is clean as it was, its completion is the same, as many privileges are forbidden below each type, and
+/// each chain has the same positions.
 pub fn self_renumbered(r: &mut Random, schema: &Schema, table: &Table, marks: &[u8]) {
     let numbers = chance_numbers(r, table.types.len());
     let (words, other) = (schema.words(), schema.renumbered(&numbers).words());
@@ -125,6 +143,10 @@ pub fn self_renumbered(r: &mut Random, schema: &Schema, table: &Table, marks: &[
     let count = |table: &Table, marks: &[u8], y: usize| forbidden_below(table, marks, y).count;
     let kept = |y: usize| count(table, marks, y) == count(&to, &after, numbers[y]);
     expect((0..numbers.len()).all(kept), "as many are forbidden below in every numbering");
+    for t in choices(table) {
+        let kept = |(i, j)| chain(table, marks, t, i, j) == chain(&to, &after, numbers[t], i, j);
+        expect(reached_pairs(table, marks, t).into_iter().all(kept), "the same chain in every numbering");
+    }
 }
 
 /// The marks of a policy of format 1 in the table of the same types in format 2, where replacements by the same kind are unset.
@@ -142,7 +164,8 @@ fn self_in_format_two(schema: &Schema, table: &Table, marks: &[u8]) {
     let to = check_table(&words).expect("a small table is accepted in both formats");
     let carried = |marks: &[u8]| in_format_two(table, &to, marks);
     let (first, other) = (first_breach(table, marks), first_breach(&to, &carried(marks)));
-    let known = |breach: Option<Breach>| breach.map(|at| (at.condition, at.of, at.i, at.j, at.forbidden));
+    let known =
+        |breach: Option<Breach>| breach.map(|at| (at.condition, at.of, at.i, at.j, at.forbidden, at.chain));
     expect(known(first) == known(other), "the same breach in format 2");
     let (count, after) = mended(table, marks);
     expect(mended(&to, &carried(marks)) == (count, carried(&after)), "the same mend in format 2");
@@ -154,6 +177,7 @@ pub fn self_policy(schema: &Schema, table: &Table, marks: &[u8]) -> (bool, usize
     self_verdict(&words, table, marks);
     self_refusals(&words, marks);
     self_below(table, marks);
+    self_chains(table, marks);
     self_one_more(&words, marks);
     self_mend(&words, table, marks);
     if table.format == Format::One {

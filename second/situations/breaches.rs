@@ -1,14 +1,9 @@
 // Situations by the first breach.
 
-use super::policy::Policy;
+use super::policy::{first, Policy};
 use super::Situation;
 use crate::answers::Breach;
 use crate::table::{FORBIDDEN, MOST_CHILDREN, UNSET};
-
-/// Whether the first breach is one of this condition of which that is known.
-fn first(policy: &Policy, condition: usize, known: impl Fn(Breach) -> bool) -> bool {
-    policy.breach.map_or(false, |breach| breach.condition == condition && known(breach))
-}
 
 /// Whether the exchange is the privilege of the breach, and of what is forbidden below that is known.
 fn exchange_forbidden(policy: &Policy, known: impl Fn(usize, &[usize]) -> bool) -> bool {

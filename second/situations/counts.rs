@@ -1,19 +1,9 @@
 // Situations by how many are forbidden below (request 8), of policies of both formats.
 
-use super::policy::Policy;
+use super::policy::{first, told, Policy};
 use super::Situation;
 use crate::answers::Breach;
 use crate::table::{Type, FORBIDDEN};
-
-/// Whether there is a breach of which that is known.
-fn told(breach: Option<Breach>, known: impl Fn(Breach) -> bool) -> bool {
-    breach.map_or(false, known)
-}
-
-/// Whether the first breach is one of this condition of which that is known.
-fn first(policy: &Policy, condition: usize, known: impl Fn(Breach) -> bool) -> bool {
-    told(policy.breach, |at| at.condition == condition && known(at))
-}
 
 /// The forbidden privileges below the child of a breach.
 fn below(policy: &Policy, at: Breach) -> Vec<usize> {

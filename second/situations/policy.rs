@@ -18,6 +18,16 @@ pub struct Policy<'a> {
     completion: OnceCell<Option<Vec<u8>>>,
 }
 
+/// Whether there is a breach of which that is known.
+pub fn told(breach: Option<Breach>, known: impl Fn(Breach) -> bool) -> bool {
+    breach.map_or(false, known)
+}
+
+/// Whether the first breach is one of this condition of which that is known.
+pub fn first(policy: &Policy, condition: usize, known: impl Fn(Breach) -> bool) -> bool {
+    told(policy.breach, |at| at.condition == condition && known(at))
+}
+
 /// The breach of a refusal with 16.
 fn refused_breach(outcome: Outcome) -> Option<Breach> {
     outcome.err().filter(|refusal| refusal.number == 16).map(|refusal| refusal.breach)
@@ -94,6 +104,21 @@ impl Policy<'_> {
     pub fn below(&self, t: usize, i: usize, mark: u8) -> Vec<usize> {
         let below = &self.table.below[self.table.types[t].children[i]];
         below.iter().copied().filter(|&p| self.mark(p) == mark).collect()
+    }
+
+    /// Whether the replacement of i by j is allowed.
+    pub fn steps_to(&self, choice: usize, i: usize, j: usize) -> bool {
+        self.table.allows(&self.case.marks, choice, i, j)
+    }
+
+    /// Whether exactly so many allowed replacements can lead from i to j.
+    pub fn leads_in(&self, choice: usize, i: usize, j: usize, steps: usize) -> bool {
+        let mut ends: Vec<usize> = vec![i];
+        for _ in 0..steps {
+            let is_next = |&k: &usize| ends.iter().any(|&end| self.steps_to(choice, end, k));
+            ends = self.positions(choice).filter(is_next).collect();
+        }
+        ends.contains(&j)
     }
 
     pub fn reaches(&self, choice: usize, i: usize, j: usize) -> bool {

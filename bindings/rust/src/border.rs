@@ -1,7 +1,7 @@
 //! The exported functions of crate store, on slices, with their answers as they cross the border. The benchmark and second/soak.rs take this
 //! file as it is.
 
-/// An answer as nine numbers, in the order of crates/store.
+/// An answer as ten numbers and the places of the chain, in the order of crates/store.
 #[repr(C)]
 #[derive(Clone, Copy, Debug, Default, PartialEq)]
 pub struct Outcome {
@@ -14,6 +14,8 @@ pub struct Outcome {
     pub j: usize,
     pub privilege: usize,
     pub forbidden: usize,
+    pub chain_length: usize,
+    pub chain: [u8; 17],
 }
 
 // SAFETY of each call: a pointer, which in a slice is never NULL, and its length, from one slice that lives through the call; the borrows keep

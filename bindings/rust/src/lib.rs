@@ -8,7 +8,7 @@
 //! anything.
 //!
 //! ```
-//! use finnedscarf::{judge_policy, ALLOWED, FORBIDDEN};
+//! use finnedscarf::{judge_policy, ALLOWED, FORBIDDEN, UNSET};
 //!
 //! // a star whose child is a text; its privileges are insert, delete, and change the text
 //! let words = [1, 15, 2, 0, 8, 1, 14, 3, 4, 1, 0, 1, 0, 1, 1];
@@ -19,6 +19,13 @@
 //! let words = [2, 15, 2, 0, 8, 1, 14, 4, 4, 1, 0, 1, 0, 1, 1];
 //! let breach = judge_policy(&words, &[FORBIDDEN, FORBIDDEN, ALLOWED, FORBIDDEN])?.expect("replace changes the text");
 //! assert_eq!((breach.element, breach.privilege, breach.forbidden), (0, 3, 1));
+//!
+//! // a choice of three empty kinds; its privileges are to replace 0 by 1, 0 by 2, 1 by 0, 1 by 2, 2 by 0, 2 by 1
+//! let words = [1, 23, 4, 0, 8, 3, 20, 6, 3, 3, 0, 0, 0, 3, 0, 0, 3, 0, 0, 3, 1, 2, 3];
+//! let marks = [ALLOWED, FORBIDDEN, UNSET, ALLOWED, UNSET, UNSET];
+//! let breach = judge_policy(&words, &marks)?.expect("0 by 1 and 1 by 2 replace 0 by 2");
+//! assert_eq!((breach.i, breach.j, breach.privilege), (0, 2, 1));
+//! assert_eq!(*breach.chain, [0, 1, 2]);
 //! # Ok::<(), finnedscarf::Refusal>(())
 //! ```
 //!
@@ -30,6 +37,7 @@ mod border;
 use border::Outcome;
 use std::error::Error;
 use std::fmt;
+use std::ops::Deref;
 
 /// As many words as the table of a DTD text can have.
 pub const MOST_WORDS: usize = 8 + 3 * 256 + 1024;
@@ -53,6 +61,38 @@ pub enum Condition {
     Cycle,
 }
 
+/// The steps of a breach of condition 2 or 3: the fewest allowed replacements from `i` to `j`, and among equally few those with the lowest
+/// position at the first difference. It is a slice of at most 17 positions, each to be replaced by the next: the first is `i` and the last is
+/// `j`. For condition 1 it is empty. Its text is the steps in words.
+#[derive(Clone, Copy, PartialEq, Eq)]
+pub struct Chain {
+    length: usize,
+    places: [u8; 17],
+}
+
+impl Deref for Chain {
+    type Target = [u8];
+
+    fn deref(&self) -> &[u8] {
+        &self.places[..self.length]
+    }
+}
+
+impl fmt::Debug for Chain {
+    fn fmt(&self, f: &mut fmt::Formatter) -> fmt::Result {
+        f.debug_list().entries(self.iter()).finish()
+    }
+}
+
+impl fmt::Display for Chain {
+    fn fmt(&self, f: &mut fmt::Formatter) -> fmt::Result {
+        for (k, position) in self.iter().enumerate() {
+            write!(f, "{}{position}", if k == 0 { "" } else { " to " })?;
+        }
+        Ok(())
+    }
+}
+
 /// A breach of a condition. A call tells the first: of the lowest type, then of the lowest condition, `i` and `j`.
 #[derive(Clone, Copy, Debug, PartialEq, Eq)]
 pub struct Breach {
@@ -70,11 +110,13 @@ pub struct Breach {
     /// How many are forbidden there: 1 for condition 2, and for condition 1 if the star's replace is forbidden, else all forbidden privileges
     /// below the child, each counted once even if two paths lead to it.
     pub forbidden: usize,
+    /// The steps from `i` to `j` for conditions 2 and 3; empty for condition 1.
+    pub chain: Chain,
 }
 
 impl fmt::Display for Breach {
     fn fmt(&self, f: &mut fmt::Formatter) -> fmt::Result {
-        let Breach { condition, element, i, j, privilege, forbidden } = self;
+        let Breach { condition, element, i, j, privilege, forbidden, chain } = self;
         match condition {
             Condition::InsertDelete => write!(
                 f,
@@ -83,13 +125,13 @@ impl fmt::Display for Breach {
             ),
             Condition::Chain => write!(
                 f,
-                "condition 2 at type {element}: allowed replacements lead from position {i} to {j}, and privilege {privilege}, that \
-                 replacement, is forbidden"
+                "condition 2 at type {element}: allowed replacements lead from position {i} to {j} ({chain}), and privilege {privilege}, \
+                 that replacement, is forbidden"
             ),
             Condition::Cycle => write!(
                 f,
-                "condition 3 at type {element}: allowed replacements lead from position {i} back to it, and privilege {privilege} below \
-                 the child there is forbidden"
+                "condition 3 at type {element}: allowed replacements lead from position {i} back to it ({chain}), and privilege \
+                 {privilege} below the child there is forbidden"
             ),
         }?;
         match forbidden {
@@ -210,8 +252,9 @@ impl Outcome {
             3 => Condition::Cycle,
             other => unreachable!("condition {other}"),
         };
-        let Outcome { element, i, j, privilege, forbidden, .. } = *self;
-        Some(Breach { condition, element, i, j, privilege, forbidden })
+        let Outcome { element, i, j, privilege, forbidden, chain_length, chain, .. } = *self;
+        let chain = Chain { length: chain_length, places: chain };
+        Some(Breach { condition, element, i, j, privilege, forbidden, chain })
     }
 
     fn done(self) -> Result<Outcome, Refusal> {

@@ -22,6 +22,26 @@ fn put(n: usize) {
     io::print_decimal(1, n as u64);
 }
 
+fn put_byte(byte: u8) {
+    io::print_hex(1, byte as u64, 2);
+}
+
+// A run, two hexadecimal digits a byte.
+fn put_run(run: &[u8]) {
+    io::write_all(1, b" ");
+    let mut k = 0;
+    while k < run.len() {
+        put_byte(run[k]);
+        k += 1;
+    }
+}
+
+// A chain: its length, and its 17 places as a run.
+fn put_chain(length: usize, chain: [u8; 17]) {
+    put(length);
+    put_run(&chain);
+}
+
 fn put_answer(case: usize, call: &[u8], answer: Answer) {
     io::print_decimal(1, case as u64);
     io::write_all(1, call);
@@ -36,20 +56,8 @@ fn put_answer(case: usize, call: &[u8], answer: Answer) {
     put(breach.j);
     put(breach.privilege);
     put(breach.forbidden);
-}
-
-fn put_byte(byte: u8) {
-    io::print_hex(1, byte as u64, 2);
-}
-
-// A run, two hexadecimal digits a byte.
-fn put_run(run: &[u8]) {
-    io::write_all(1, b" ");
-    let mut k = 0;
-    while k < run.len() {
-        put_byte(run[k]);
-        k += 1;
-    }
+    let chain = breach.chain;
+    put_chain(breach.length, chain);
 }
 
 // A word, low byte first.

@@ -17,7 +17,7 @@ use Rattle.verdict.specs.Breaches.{noBreach, spotOf, FirstBreach, Verdict, clea
 use Rattle.verdict.specs.declared.Breach.{Breach}
 use Rattle.verdict.specs.declared.Condition.the-variants.{InsertDelete}
 use Rattle.verdict.proofs.Firsts.{clean-none}
-use Rattle.verdict.proofs.PolicyTests.{accepted-out, verdictBy, verdict-by}
+use Rattle.verdict.proofs.PolicyTests.{accepted-out, at as told, verdictBy, verdict-by}
 use Rattle.meaning.specs.Trees.{Forest, bare, tree, as-text, as-star, no-tree, conforming, ConformsAt, Document, Same, anew-first}
 use Rattle.meaning.specs.Edits.{set-text, put-anew, at, below, stay, go}
 use Rattle.meaning.specs.Consistent.{Imitates, Consistent}
@@ -104,7 +104,7 @@ empties-accepted = accepted-out refl
 
 -- condition 1 at type 0, with the privilege to exchange
 abbrev barred : Breach
-barred = record { condition = InsertDelete; element = 0; i = 0; j = 0; privilege = 2; forbidden = 1 }
+barred = told InsertDelete 0 0 0 2 1 []
 
 pub empties-broken : FirstBreach empties renewing barred
 unfolding sumBelow ruleOf ruleAt childrenAt countOf gapOf privilegesAt firstPrivilege privileges replaceOf

@@ -10,6 +10,7 @@ use Rattle.table.proofs.Tables.{Each, each-computed, marksOf, sample, four}
 use Rattle.verdict.specs.Answers.{breached}
 use Rattle.verdict.specs.declared.Answer.{Answer}
 use Rattle.verdict.specs.declared.Condition.the-variants.{Chain}
+use Rattle.verdict.proofs.PolicyTests.{at}
 use Rattle.mending.specs.Mends.{Mends}
 use Rattle.proposing.specs.Answers.{ProposeAnswer}
 use Rattle.mending.proofs.MendTests.{mendBy, mend-by}
@@ -35,7 +36,7 @@ rows =
     -- newly forbidden replacement is the next breach, at which 0 by 2 is taken
     ∷ mended four 112_001_010_000 222_001_010_000 2
     -- S9 of document 01 with the first breach mended only: the second is left
-    ∷ proposed sample 11021201000 12021201000 (breached (record { condition = Chain; element = 4; i = 0; j = 2; privilege = 5; forbidden = 1 }))
+    ∷ proposed sample 11021201000 12021201000 (breached (at Chain 4 0 2 5 1 (0 ∷ 1 ∷ 2 ∷ [])))
     ∷ []
 
 abbrev pub Right : Row → Type 0

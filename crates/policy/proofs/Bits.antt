@@ -1,11 +1,11 @@
 -- The bits of a word: of its parts, of its double, of two words joined, of one that is written from its highest bit down. Assumes nothing.
-use Prim.Native.Nat.{ℕ, zero, suc, _+_, _-_, _*_, _/_, _%_, _^_, _≤_, _<_}
+use Prim.Native.Nat.{ℕ, zero, suc, _+_, _-_, _*_, _/_, _%_, _^_, _≤_, _<_, min}
 use mathlib.Core.Path.{_≡_, refl, sym, ap, subst, _∙_}
 use mathlib.Core.Bool.{Bool, true, false, not, cond, _||_, _&&_, true≢false}
-use native.Mathlib.Nat.{pow-suc, mul-comm, div-one, zero-div, pow-le-pow-right, zero-lt-suc, one-mul}
+use native.Mathlib.Nat.{pow-suc, mul-comm, div-one, zero-div, div-eq-of-lt, pow-le-pow-right, zero-lt-suc, one-mul}
 use native.Mathlib.Decide.{ℕ-discrete}
 use native.Mathlib.Omega.{arith}
-use lib.Bits.{bitOr, bitAnd, bitXor, and-shr, and-mod, or-shr, or-mod, xor-shr, xor-mod, and-mask}
+use lib.Bits.{bitOr, bitAnd, bitXor, and-shr, and-mod, or-shr, or-mod, xor-shr, xor-mod, and-mask, and-le-l}
 use mathlib.Core.Logic.{_≢_, _⊎_, inl, inr}
 use mathlib.Core.List.{List}
 use lib.Count.{trailingZeros, under}
@@ -14,7 +14,9 @@ use lib.ListN.{length, getD, set, length-set}
 use lib.Seq.{getD-set-same, getD-set-other}
 use lib.Pow.{shl-exact, shr-shr, high, low, field, mod-mod-pow}
 use Rattle.table.specs.steps.Found.{Tells}
-use Rattle.policy.specs.steps.Squares.{bit, marked, Flags, on, off, Row, Toggled}
+use Rattle.table.proofs.Lists.{le-or-lt}
+use Rattle.table.proofs.Lowest.{tells-by}
+use Rattle.policy.specs.steps.Squares.{bit, marked, Flags, on, off, Row, Toggled, Inside, Positions, Shared, LowestShared, Into}
 use Rattle.policy.proofs.SquareLaws.{flags-tell}
 
 -- the bit that a shift and a mask read
@@ -80,15 +82,51 @@ unfolding trailingZeros
 zeros-clear zero w j l = absurd (omega arith)
 zeros-clear (suc k) w j l = clear-under (w % 2) (trailingZeros k (w / 2)) w refl (zeros-clear k (w / 2)) j l
 
--- two words share no bit that is 0 in their meet: none below the lowest that they share, and none at all where the meet is 0
+-- and the lowest itself, where there is one
+zeros-low : (d t w : ℕ) → w % 2 ≡ d → (w % 2 ≡ 0 → bit (w / 2) t ≡ true) → bit w (under d t) ≡ true
+zeros-low zero t w e rest = bit-high w t ∙ rest e
+zeros-low (suc d) t w e rest =
+    let odd : w % 2 ≡ 1 = omega arith in
+    ap (λ (x : ℕ). eqb (x % 2) 1) (div-one w) ∙ ap (λ (x : ℕ). eqb x 1) odd
+
+zeros-set : (k w : ℕ) → w < 2 ^ k → w ≢ 0 → bit w (trailingZeros k w) ≡ true
+unfolding trailingZeros
+zeros-set zero w l d = absurd (d (omega arith))
+zeros-set (suc k) w l d = zeros-low (w % 2) (trailingZeros k (w / 2)) w refl
+    (λ e. zeros-set k (w / 2) (omega (arith, rw (pow-suc 2 k) at l)) (λ z. d (omega arith)))
+
+-- the bits that two words share are those of their meet: none below its lowest, and none at all where it is 0
+meet-both : (a b j : ℕ) → bit (bitAnd a b) j ≡ true → (bit a j ≡ true) × (bit b j ≡ true)
+meet-both a b j e = go (bit a j) (bit b j) refl refl (sym (bit-and a b j) ∙ e)
+  where
+    go : (p q : Bool) → bit a j ≡ p → bit b j ≡ q → (p && q) ≡ true → (bit a j ≡ true) × (bit b j ≡ true)
+    go true true f g h = (f, g)
+    go true false f g h = absurd (true≢false (sym h))
+    go false q f g h = absurd (true≢false (sym h))
+
 meet-apart : (a b j : ℕ) → bit (bitAnd a b) j ≡ false → ¬ ((bit a j ≡ true) × (bit b j ≡ true))
 meet-apart a b j e (p, q) = true≢false (sym (bit-and a b j ∙ rw (p, q) refl) ∙ e)
 
-pub unshared : (k a b j : ℕ) → j < trailingZeros k (bitAnd a b) → ¬ ((bit a j ≡ true) × (bit b j ≡ true))
-unshared k a b j l = meet-apart a b j (zeros-clear k (bitAnd a b) j l)
+module _ (a b : ℕ) where
+  pub none-shared : bitAnd a b ≡ 0 → (j : ℕ) → ¬ ((bit a j ≡ true) × (bit b j ≡ true))
+  none-shared e j = meet-apart a b j (rw e (bit-none j))
 
-pub disjoint : (a b j : ℕ) → bitAnd a b ≡ 0 → ¬ ((bit a j ≡ true) × (bit b j ≡ true))
-disjoint a b j e = meet-apart a b j (rw e (bit-none j))
+  module _ (some : bitAnd a b ≢ 0) (small : a < 65536) where
+    abbrev lowest : ℕ
+    lowest = trailingZeros 16 (bitAnd a b)
+
+    at-lowest : (bit a lowest ≡ true) × (bit b lowest ≡ true)
+    at-lowest = meet-both a b lowest (zeros-set 16 (bitAnd a b) (omega (arith, and-le-l a b)) some)
+
+    pub some-shared : Shared a b
+    some-shared = record { at = lowest; left = at-lowest .0; right = at-lowest .1 }
+
+    pub lowest-shared : {count r : ℕ} → r ≡ min lowest count → LowestShared a b count r
+    lowest-shared {count} {r} e = record {
+      within = omega (arith, e);
+      free = λ q l. meet-apart a b q (zeros-clear 16 (bitAnd a b) q (omega (arith, e)));
+      here = λ l. let h : r ≡ lowest = omega (arith, e) in rw h at-lowest;
+    }
 
 -- two words side by side, the lower one of m bits
 module _ (m a : ℕ) {b : ℕ} (few : b < 2 ^ m) where
@@ -210,3 +248,35 @@ row-end {P} {n} {j} {row} few zero-j r = record {
   fits = let h : n - j ≤ 16 = omega arith in omega (arith, r .fits, pow-le-pow-right {n = 2} (zero-lt-suc 1) h);
   tells = λ b l. let e : j + b ≡ b = omega arith in subst (λ (x : ℕ). Tells (P x) (bit row b)) e (r .tells b (omega arith));
 }
+
+-- a word below a power of two has no bit from there on
+small-inside : (n w : ℕ) → w < 2 ^ n → Inside n w
+small-inside n w h q e = go (le-or-lt n q)
+  where
+    go : (n ≤ q) ⊎ (q < n) → q < n
+    go (inr l) = l
+    go (inl l) =
+        let none : w < 2 ^ q = omega (arith, h, pow-le-pow-right {n = 2} (zero-lt-suc 1) l) in
+        absurd (true≢false (sym e ∙ ap (λ (x : ℕ). eqb (x % 2) 1) (div-eq-of-lt none)))
+
+pub positions-end : {P : ℕ → Type 0} {n j word : ℕ} → n ≤ 16 → j ≤ 0 → RowFrom P n j word → Positions n P word
+positions-end {P} {n} {j} {word} few zero-j r = record {
+  inside = small-inside n word (let e : n - j ≡ n = omega arith in subst (λ (x : ℕ). word < 2 ^ x) e (r .fits));
+  tells = row-end few zero-j r .tells;
+}
+
+-- rows lead into a word from where their row shares a position with it
+pub shared-into : {n : ℕ} {rows : List ℕ} {word p s : ℕ} → Inside n word → p < n → Flags (Shared (getD rows p 0) word) s → Flags (Into n rows word p) s
+shared-into inside l (on s e) = on (record { to = s .at; leads = record { from = l; to = inside (s .at) (s .right); is = s .left }; is = s .right }) e
+shared-into inside l (off d e) = off (λ s. d (record { at = s .to; left = s .leads .is; right = s .is })) e
+
+-- the word of one position
+pub only-one : {j word : ℕ} → j < 16 → word ≡ 2 ^ j → Positions 16 (λ p. p ≡ j) word
+only-one {j} {word} l e = record {
+  inside = λ q b. let f : q ≡ j = at q (ℕ-discrete q j) b in omega arith;
+  tells = λ p h. tells-by (bit word p) (at p (ℕ-discrete p j)) (λ b f. true≢false (sym (rw (e, f) (power-same j)) ∙ b));
+}
+  where
+    at : (q : ℕ) → Dec (q ≡ j) → bit word q ≡ true → q ≡ j
+    at q (yes f) b = f
+    at q (no d) b = absurd (true≢false (sym b ∙ rw e (power-other j q d)))

@@ -17,6 +17,15 @@ pub plus-map : {R S : ℕ → ℕ → Type 0} {i j : ℕ} → ((a b : ℕ) → R
 plus-map {i = i} {j = j} f (last r) = last (f i j r)
 plus-map {i = i} f (next k r p) = next k (f i k r) (plus-map f p)
 
+-- they begin and end where steps do
+pub plus-starts : {R : ℕ → ℕ → Type 0} {P : ℕ → Type 0} {i j : ℕ} → ((a b : ℕ) → R a b → P a) → Plus R i j → P i
+plus-starts {i = i} {j = j} f (last r) = f i j r
+plus-starts {i = i} f (next k r p) = f i k r
+
+pub plus-ends : {R : ℕ → ℕ → Type 0} {P : ℕ → Type 0} {i j : ℕ} → ((a b : ℕ) → R a b → P b) → Plus R i j → P j
+plus-ends {i = i} {j = j} f (last r) = f i j r
+plus-ends f (next k r p) = plus-ends f p
+
 -- steps of R lead from i to j over positions below k
 abbrev pub Via : (ℕ → ℕ → Type 0) → ℕ → ℕ → ℕ → Type 0
 Via R zero i j = R i j

@@ -3,19 +3,16 @@
 use Prim.Native.Nat.{ℕ, _<_}
 use mathlib.Core.Path.{_≡_}
 use mathlib.Core.List.{List}
-use Rattle.table.specs.Plus.{last, next}
 use Rattle.table.specs.Rule.{IsChoice, countOf}
 use Rattle.table.specs.Privilege.{replaceOf, SameKind, Replaceable}
 use Rattle.policy.specs.Reached.{Step, Reached}
-use Rattle.policy.proofs.Closures.{plus-map}
+use Rattle.policy.proofs.Closures.{plus-map, plus-starts, plus-ends}
 
 pub reached-from : {ws : List ℕ} {S : ℕ → Type 0} {x i j : ℕ} → Reached ws S x i j → i < countOf ws x
-reached-from (last s) = s .can .from
-reached-from (next k s r) = s .can .from
+reached-from {ws} {x = x} = plus-starts {P = λ k. k < countOf ws x} (λ a b s. s .can .from)
 
 pub reached-to : {ws : List ℕ} {S : ℕ → Type 0} {x i j : ℕ} → Reached ws S x i j → j < countOf ws x
-reached-to (last s) = s .can .to
-reached-to (next k s r) = reached-to r
+reached-to {ws} {x = x} = plus-ends {P = λ k. k < countOf ws x} (λ a b s. s .can .to)
 
 module _ {ws : List ℕ} {S R : ℕ → Type 0} (more : (p : ℕ) → S p → R p) where
   step-mono : {x : ℕ} (i j : ℕ) → Step ws S x i j → Step ws R x i j

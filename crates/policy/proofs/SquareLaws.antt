@@ -1,7 +1,7 @@
 -- Squares of 16 rows: written row by row, closed position by position, and what they tell. Assumes nothing.
 use Prim.Native.Nat.{ℕ, _+_, _≤_, _<_}
 use mathlib.Core.Path.{_≡_, refl, sym, _∙_}
-use mathlib.Core.Bool.{Bool, true, false, true≢false}
+use mathlib.Core.Bool.{true≢false}
 use mathlib.Core.List.{List}
 use native.Mathlib.Numerals.{add-one}
 use native.Mathlib.Omega.{arith}
@@ -15,7 +15,7 @@ use Rattle.table.specs.Rule.{IsChoice}
 use Rattle.table.specs.Privilege.{privileges, replace}
 use Rattle.table.specs.steps.Numbering.{NumberedAs}
 use Rattle.table.specs.declared.privilege.Numbering.{Numbering}
-use Rattle.table.proofs.Lowest.{told-yes, tells-as, tells-by}
+use Rattle.table.proofs.Lowest.{told-yes, told-true, tells-as, tells-by}
 use Rattle.table.proofs.Privileges.{numbered-small, edit-below, replaceable-in, in-replaceable, replace-in}
 use Rattle.policy.specs.Marks.{Allowed, Policy}
 use Rattle.table.specs.Plus.{Plus}
@@ -74,11 +74,7 @@ module _ {n : ℕ} {R : ℕ → ℕ → Type 0} {square : List ℕ} (s : Square 
   marked-told i j m = told-yes (marked square i j) (s .tells i j (m .from) (m .to)) (m .is)
 
   pub told-marked : (i j : ℕ) → i < n → j < n → R i j → Marked n square i j
-  told-marked i j li lj r = record { from = li; to = lj; is = so (marked square i j) (s .tells i j li lj) }
-    where
-      so : (b : Bool) → Tells (R i j) b → b ≡ true
-      so true t = refl
-      so false d = absurd (d r)
+  told-marked i j li lj r = record { from = li; to = lj; is = told-true (marked square i j) (s .tells i j li lj) r }
 
 -- the steps by the numbering of a choice are its steps
 module _ {ws : List ℕ} {x : ℕ} {n : Numbering} (h : NumberedAs ws x n) (c : IsChoice ws x) (marks : List ℕ) where

@@ -2,11 +2,11 @@
 // row's bits. Contracts cite specs/steps/Squares.
 ghost use mathlib.Core.Path.{_≡_};
 ghost use Prim.Native.Nat.{ℕ, _+_, _≤_, _<_};
-ghost use lib.ListN.{length};
+ghost use lib.ListN.{length, getD};
 ghost use Rattle.table.specs.steps.Found.{Tells};
 ghost use Rattle.table.specs.steps.Numbering.{rowIn};
 ghost use Rattle.policy.specs.Marks.{Legal};
-ghost use Rattle.policy.specs.steps.Squares.{bit, marked, Square, StepIn, Flags, Room, Readable, AskedAt, RowRead, Read, Unshared, RowJoined, Joined, Toggled};
+ghost use Rattle.policy.specs.steps.Squares.{bit, marked, Square, StepIn, Flags, Room, Readable, AskedAt, RowRead, Read, Inside, Shared, LowestShared, Positions, Into, RowJoined, Joined, Toggled};
 ghost use Rattle.policy.specs.steps.Packed.{Flagged};
 use super::packed::eight;
 use super::packed::sixteen;
@@ -139,7 +139,7 @@ pub fn allowed_rows(marks: &[u8], n: Numbering) -> [u16; 16]
 }
 
 // Is bit j of the row 1?
-pub(crate) fn has(row: u16, j: usize) -> bool
+pub fn has(row: u16, j: usize) -> bool
     requires { ⌜ j < 16 ⌝ }
     ensures { λ r. ⌜ r ≡ bit row j ⌝ }
 {
@@ -154,16 +154,52 @@ pub fn leads(rows: &[u16; 16], i: usize, j: usize) -> bool
     has(rows[i], j)
 }
 
-// Where a search for a position to which both lead from i begins: at the lowest such position, or behind the last one if there is none.
-pub fn first_shared(rows: &[u16; 16], others: &[u16; 16], i: usize, count: usize) -> usize
-    requires { ⌜ i < 16 ⌝ }
-    ensures { λ r. ⌜ Unshared (now (rows .entry)) (now (others .entry)) i count r ⌝ }
+// The lowest of count positions that two words share, or behind the last one if there is none.
+pub fn lowest_shared(a: u16, b: u16, count: usize) -> usize
+    ensures { λ r. ⌜ LowestShared a b count r ⌝ }
 {
-    let shared = rows[i] & others[i];
+    let shared = a & b;
     if shared == 0 {
         return count;
     }
     lesser(u16::trailing_zeros(shared) as usize, count)
+}
+
+// The lowest of count positions to which both lead from i, or behind the last one if there is none.
+pub fn first_shared(rows: &[u16; 16], others: &[u16; 16], i: usize, count: usize) -> usize
+    requires { ⌜ i < 16 ⌝ }
+    ensures { λ r. ⌜ LowestShared (getD (now (rows .entry)) i 0) (getD (now (others .entry)) i 0) count r ⌝ }
+{
+    lowest_shared(rows[i], others[i], count)
+}
+
+// The word of one position.
+pub fn only(j: usize) -> u16
+    requires { ⌜ j < 16 ⌝ }
+    ensures { λ r. ⌜ Positions 16 (λ p. p ≡ j) r ⌝ }
+{
+    1 << j
+}
+
+// 1 if two words share a position, else 0.
+fn shared(a: u16, b: u16) -> u16
+    ensures { λ r. ⌜ Flags (Shared a b) r ⌝ }
+{
+    if a & b == 0 { 0 } else { 1 }
+}
+
+// Those of the first n positions from which the rows lead to one of the word.
+pub fn leading_into(rows: &[u16; 16], n: usize, word: u16) -> u16
+    requires { ⌜ (n ≤ 16) × Inside n word ⌝ }
+    ensures { λ r. ⌜ Positions n (Into n (now (rows .entry)) word) r ⌝ }
+{
+    let mut from: u16 = 0;
+    let mut p = n;
+    while 0 < p {
+        p -= 1;
+        from = 2 * from + shared(rows[p], word);
+    }
+    from
 }
 
 // Makes the bit at k of row i the other one.

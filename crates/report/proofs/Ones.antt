@@ -12,14 +12,14 @@ use Rattle.completion.proofs.Least.{least-one}
 use Rattle.mending.proofs.Mended.{mends-one}
 use Rattle.lines.specs.Text.{line}
 use Rattle.report.specs.File.{tableOf}
-use Rattle.report.specs.Report.{tableWord, marksWord, verdictWord, completeWord, mendedWord, answerLine, fiveOf, VerdictLine, CompleteLine, MendedLine, PolicyLines, Report}
+use Rattle.report.specs.Report.{tableWord, marksWord, verdictWord, completeWord, mendedWord, answerLine, numbersOf, VerdictLine, CompleteLine, MendedLine, PolicyLines, Report}
 
 answers : {n m p q : ℕ} (word : List ℕ) → (n ≡ m) × (p ≡ q) → answerLine word n p ≡ answerLine word m q
 answers {n} {m} {p} {q} word (a, b) = ap (λ (x : ℕ). answerLine word x p) a ∙ ap (answerLine word m) b
 
 module _ {ws ms : List ℕ} where
   verdicts : {a b : List ℕ} → VerdictLine ws ms a → VerdictLine ws ms b → a ≡ b
-  verdicts (VerdictLine.judged v e) (VerdictLine.judged w f) = e ∙ ap (λ (x : Breach). line verdictWord (fiveOf x) []) (verdict-one ws ms v w) ∙ sym f
+  verdicts (VerdictLine.judged v e) (VerdictLine.judged w f) = e ∙ ap (λ (x : Breach). line verdictWord (numbersOf x) []) (verdict-one ws ms v w) ∙ sym f
 
   completes : {a b : List ℕ} → CompleteLine ws ms a → CompleteLine ws ms b → a ≡ b
   completes (CompleteLine.none never e) (CompleteLine.none never′ f) = e ∙ sym f

@@ -43,8 +43,12 @@ answerLine word number place = line word (number ∷ place ∷ []) []
 abbrev pub fiveOf : Breach → List ℕ
 fiveOf b = conditionNumber (b .condition) ∷ b .element ∷ b .i ∷ b .j ∷ b .privilege ∷ []
 
+-- "the program's verdict line ends with its positions" (document 02, order 6): those of the chain
+abbrev pub numbersOf : Breach → List ℕ
+numbersOf b = fiveOf b ++ take (b .length) (b .chain)
+
 pub data VerdictLine (ws ms text : List ℕ) : Type 0 where
-  judged : {b : Breach} → Verdict ws ms b → text ≡ line verdictWord (fiveOf b) [] → VerdictLine ws ms text
+  judged : {b : Breach} → Verdict ws ms b → text ≡ line verdictWord (numbersOf b) [] → VerdictLine ws ms text
 
 -- `none` exactly if no fully decided policy that keeps the set marks passes, else the least such policy
 pub data CompleteLine (ws ms text : List ℕ) : Type 0 where

@@ -1,6 +1,6 @@
 // What the program judge prints for a file. Contracts cite specs/File for what the file lends and specs/Report for the lines.
 ghost use Prim.Native.Nat.{_+_, _*_, _≤_};
-ghost use mathlib.Core.List.{[]};
+ghost use mathlib.Core.List.{[], _++_};
 ghost use mathlib.Core.Path.{_≡_};
 ghost use lib.ListN.{length, take};
 ghost use Rattle.table.specs.Check.{Accepted};
@@ -8,7 +8,7 @@ ghost use Rattle.policy.specs.Marks.{Policy};
 ghost use Rattle.lines.specs.Text.{line};
 ghost use Rattle.lines.specs.steps.Putting.{Puts};
 ghost use Rattle.report.specs.File.{wordsOf, lentOf};
-ghost use Rattle.report.specs.Report.{answerLine, fiveOf, verdictWord, CompleteLine, MendedLine, PolicyLines, Report, Reported};
+ghost use Rattle.report.specs.Report.{answerLine, fiveOf, numbersOf, verdictWord, CompleteLine, MendedLine, PolicyLines, Report, Reported};
 ghost use Rattle.report.specs.steps.Adding.{Adds};
 use completion::complete;
 use lines::put_line;
@@ -21,7 +21,7 @@ use verdict::number_of;
 
 // A text: the first bytes, as many as its size.
 pub struct Text {
-    pub bytes: [u8; 8448],
+    pub bytes: [u8; 8768],
     pub size: usize,
 }
 
@@ -58,20 +58,41 @@ fn put_answer(out: &mut [u8], at: usize, word: &[u8], number: u8, place: usize) 
     put_line(out, at, word, &numbers, b"")
 }
 
-// Puts the verdict's line.
-fn put_verdict(out: &mut [u8], at: usize, breach: Breach) -> usize
-    requires { ⌜ at + 114 ≤ length (now out) ⌝ }
-    ensures { λ r. ⌜ Puts (line verdictWord (fiveOf breach) []) (now (out .entry)) at (now (out .exit)) r ⌝ }
+fn wide(position: u8) -> usize
+    ensures { λ r. ⌜ r ≡ position ⌝ }
+{
+    position as usize
+}
+
+// The numbers of the verdict's line: the five of the breach, and then the positions of its chain.
+fn verdict_numbers(breach: Breach, positions: &[u8]) -> [usize; 22]
+    requires { ⌜ length (now positions) ≤ 17 ⌝ }
+    ensures { λ r. ⌜ take (5 + length (now (positions .entry))) r ≡ fiveOf breach ++ now (positions .entry) ⌝ }
 {
     let condition = breach.condition;
-    let numbers = [
-        number_of(condition),
-        breach.element,
-        breach.i,
-        breach.j,
-        breach.privilege,
-    ];
-    put_line(out, at, b"verdict", &numbers, b"")
+    let mut numbers = [0usize; 22];
+    numbers[0] = number_of(condition);
+    numbers[1] = breach.element;
+    numbers[2] = breach.i;
+    numbers[3] = breach.j;
+    numbers[4] = breach.privilege;
+    let mut k = 0;
+    while k < positions.len() {
+        numbers[5 + k] = wide(positions[k]);
+        k += 1;
+    }
+    numbers
+}
+
+// Puts the verdict's line.
+fn put_verdict(out: &mut [u8], at: usize, breach: Breach) -> usize
+    requires { ⌜ (at + 471 ≤ length (now out)) × (breach .length ≤ 17) × (length (breach .chain) ≡ 17) ⌝ }
+    ensures { λ r. ⌜ Puts (line verdictWord (numbersOf breach) []) (now (out .entry)) at (now (out .exit)) r ⌝ }
+{
+    let length = breach.length;
+    let chain = breach.chain;
+    let numbers = verdict_numbers(breach, &chain[0..length]);
+    put_line(out, at, b"verdict", &numbers[0..5 + length], b"")
 }
 
 // Puts the completion's line.
@@ -101,8 +122,8 @@ fn put_mended(words: &[u16], marks: &[u8], out: &mut [u8], at: usize) -> usize
 
 // Puts what follows line 1 where the table is accepted.
 fn put_policy(words: &[u16], marks: &[u8], out: &mut [u8], at: usize) -> usize
-    requires { ⌜ Accepted (now words) × (at + 8345 ≤ length (now out)) ⌝ }
-    ensures { λ r. ⌜ Adds (PolicyLines (now (words .entry)) (now (marks .entry))) 8345 (now (out .entry)) at (now (out .exit)) r ⌝ }
+    requires { ⌜ Accepted (now words) × (at + 8702 ≤ length (now out)) ⌝ }
+    ensures { λ r. ⌜ Adds (PolicyLines (now (words .entry)) (now (marks .entry))) 8702 (now (out .entry)) at (now (out .exit)) r ⌝ }
 {
     let judged = judge_policy(words, marks);
     if judged.number != 0 {
@@ -115,8 +136,8 @@ fn put_policy(words: &[u16], marks: &[u8], out: &mut [u8], at: usize) -> usize
 
 // Puts all lines for a file that is not too long.
 fn put_report(file: &[u8], out: &mut [u8]) -> usize
-    requires { ⌜ (length (now file) ≤ 8192) × (length (now out) ≡ 8448) ⌝ }
-    ensures { λ r. ⌜ Adds (Report (now (file .entry))) 8448 (now (out .entry)) 0 (now (out .exit)) r ⌝ }
+    requires { ⌜ (length (now file) ≤ 8192) × (length (now out) ≡ 8768) ⌝ }
+    ensures { λ r. ⌜ Adds (Report (now (file .entry))) 8768 (now (out .entry)) 0 (now (out .exit)) r ⌝ }
 {
     let mut space = [0u16; 4096];
     let n = read_words(file, &mut space);
@@ -133,7 +154,7 @@ fn put_report(file: &[u8], out: &mut [u8]) -> usize
 pub fn report(file: &[u8]) -> Text
     ensures { λ r. ⌜ Reported (now (file .entry)) r ⌝ }
 {
-    let mut bytes = [0u8; 8448];
+    let mut bytes = [0u8; 8768];
     let size = if file.len() > 8192 {
         put_answer(&mut bytes, 0, b"table", 2, 0)
     } else {

@@ -13,7 +13,7 @@ use Rattle.verdict.specs.Breaches.{Verdict}
 use Rattle.verdict.specs.declared.Breach.{Breach}
 use Rattle.verdict.specs.declared.below.Tally.{Tally}
 use Rattle.verdict.specs.declared.Condition.the-variants.{InsertDelete}
-use Rattle.verdict.proofs.PolicyTests.{policy, verdictBy, verdict-by, tallyBy, tally-by}
+use Rattle.verdict.proofs.PolicyTests.{policy, at, verdictBy, verdict-by, tallyBy, tally-by}
 
 -- a star over a sequence of two, each a sequence of the same text, whose privilege is 2
 abbrev shared : List ℕ
@@ -37,7 +37,7 @@ abbrev diamond : List ℕ
 diamond = 1 ∷ 119 ∷ 26 ∷ 0 ∷ 8 ∷ 33 ∷ 86 ∷ 3 ∷ 4 ∷ 1 ∷ 0 ∷ layers 8 1 ++ (1 ∷ 0 ∷ 33 ∷ 1 ∷ ways 8 1)
 
 -- n numbers from a on, n texts, and n times the same mark
-abbrev from : ℕ → ℕ → List ℕ
+abbrev pub from : ℕ → ℕ → List ℕ
 from a zero = []
 from a (suc n) = a ∷ from (a + 1) n
 
@@ -45,7 +45,7 @@ abbrev texts : ℕ → ℕ → List ℕ
 texts zero i = []
 texts (suc n) i = 1 ∷ 0 ∷ i ∷ texts n i
 
-abbrev repeated : ℕ → ℕ → List ℕ
+abbrev pub repeated : ℕ → ℕ → List ℕ
 repeated zero mark = []
 repeated (suc n) mark = mark ∷ repeated n mark
 
@@ -60,7 +60,7 @@ pub data Row : Type 0 where
 
 -- the star at type 0 is broken, by the privilege and as many
 abbrev star : ℕ → ℕ → Breach
-star p count = record { condition = InsertDelete; element = 0; i = 0; j = 0; privilege = p; forbidden = count }
+star p count = at InsertDelete 0 0 0 p count []
 
 abbrev tally : ℕ → ℕ → Tally
 tally lowest count = record { lowest = lowest; count = count }

@@ -1,3 +1,4 @@
--- The samples, in two tables.
+-- The samples, in three tables.
 pub mod Samples
 pub mod CountSamples
+pub mod ChainSamples

@@ -1,5 +1,5 @@
--- What a call answers to a program in another language: nine numbers (document 01, "Numbers of the answers and their order"; document 02,
--- orders 3 and 8). Assumes nothing.
+-- What a call answers to a program in another language: nine numbers, and a chain with its length (document 01, "Numbers of the answers and their order";
+-- document 02, orders 3, 8 and 6). Assumes nothing.
 use Prim.Native.Nat.{ℕ}
 use mathlib.Core.Path.{_≡_}
 use mathlib.Core.List.{List}
@@ -22,6 +22,8 @@ outcomeOf a = record {
   j = a .breach .j;
   privilege = a .breach .privilege;
   forbidden = a .breach .forbidden;
+  length = a .breach .length;
+  chain = a .breach .chain;
 }
 
 -- checking a table as an answer: its number and place, the rest 0

@@ -1,5 +1,5 @@
-// The six calls for programs in C and Rust: runs and lengths in, nine numbers out. include/finnedscarf.h declares them.
-// Contracts cite specs/Outcomes for the nine numbers, and the definitions of the crate that makes the call for the answer.
+// The six calls for programs in C and Rust: runs and lengths in, an outcome out. include/finnedscarf.h declares them.
+// Contracts cite specs/Outcomes for the outcome, and the definitions of the crate that makes the call for the answer.
 ghost use mathlib.Core.Path.{_≡_};
 ghost use Rattle.verdict.specs.Answers.{JudgeAnswer};
 ghost use Rattle.completion.specs.Answers.{CompleteAnswer};
@@ -16,7 +16,7 @@ use verdict::judge_policy;
 use verdict::number_of;
 use verdict::refused;
 
-// An answer as nine numbers: the condition by its number, 0 where there is none.
+// An answer as nine numbers, the condition by its number, 0 where there is none; then the length of the chain and its 17 places.
 #[repr(C)]
 pub struct Outcome {
     pub number: usize,
@@ -28,6 +28,8 @@ pub struct Outcome {
     pub j: usize,
     pub privilege: usize,
     pub forbidden: usize,
+    pub length: usize,
+    pub chain: [u8; 17],
 }
 
 fn outcome_of(answer: Answer) -> Outcome
@@ -35,6 +37,7 @@ fn outcome_of(answer: Answer) -> Outcome
 {
     let breach = answer.breach;
     let condition = breach.condition;
+    let positions = breach.chain;
     Outcome {
         number: answer.number as usize,
         place: answer.place,
@@ -45,10 +48,12 @@ fn outcome_of(answer: Answer) -> Outcome
         j: breach.j,
         privilege: breach.privilege,
         forbidden: breach.forbidden,
+        length: breach.length,
+        chain: positions,
     }
 }
 
-// Checks a run of words: 0 and V where it is a table, else 1 to 9 or 19 and the place. The other seven numbers are 0.
+// Checks a run of words: 0 and V where it is a table, else 1 to 9 or 19 and the place. All else is 0.
 #[no_mangle]
 pub extern "C" fn finnedscarf_check_table(words: &[u16]) -> Outcome
     ensures { λ r. ⌜ Told (CheckAnswer (now (words .entry))) r ⌝ }
@@ -58,7 +63,7 @@ pub extern "C" fn finnedscarf_check_table(words: &[u16]) -> Outcome
 }
 
 // Reads DTD text: refuses with 20 to 22, 4, 7, 19, 8, 9 or 12 and leaves the result as it was, or answers 0 and V, writes the text's table into it and
-// keeps its rest. The other seven numbers are 0.
+// keeps its rest. All else is 0.
 #[no_mangle]
 pub extern "C" fn finnedscarf_read_dtd(text: &[u8], out: &mut [u16]) -> Outcome
     ensures { λ r. ⌜ Told (λ a. ReadAnswer (now (text .entry)) (now (out .entry)) a (now (out .exit))) r ⌝ }

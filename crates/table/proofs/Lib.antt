@@ -22,6 +22,7 @@ pub mod Stamps
 pub mod Facts
 pub mod Test
 pub mod HowMany
+pub mod Lex
 pub mod Walks
 pub mod Answers
 pub mod BelowTests

@@ -37,6 +37,10 @@ module _ {P : Type 0} where
   pub told-no : (r : Bool) → Tells P r → r ≡ false → ¬ P
   told-no r h e = rw e at h
 
+  pub told-true : (r : Bool) → Tells P r → P → r ≡ true
+  told-true true h p = refl
+  told-true false h p = absurd (h p)
+
   pub tells-as : {Q : Type 0} → (P → Q) → (Q → P) → (r : Bool) → Tells P r → Tells Q r
   tells-as f g true h = f h
   tells-as f g false h = λ q. h (g q)

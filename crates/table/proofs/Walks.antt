@@ -13,25 +13,25 @@ use Rattle.table.proofs.Test.{Test, settle, and-out, and-into, or-out, 
 use Rattle.table.specs.Plus.{Plus, last, next}
 
 -- k stands in a list
-abbrev In : ℕ → List ℕ → Type 0
+abbrev pub In : ℕ → List ℕ → Type 0
 In k [] = ⊥
 In k (a ∷ s) = (k ≡ a) ⊎ In k s
 
 -- the numbers below n
-abbrev below : ℕ → List ℕ
+abbrev pub below : ℕ → List ℕ
 below zero = []
 below (suc n) = n ∷ below n
 
-below-length : (n : ℕ) → length (below n) ≡ n
+pub below-length : (n : ℕ) → length (below n) ≡ n
 below-length zero = refl
 below-length (suc n) = ap suc (below-length n)
 
-below-in : (n k : ℕ) → k < n → In k (below n)
+pub below-in : (n k : ℕ) → k < n → In k (below n)
 below-in zero k l = absurd (omega arith)
 below-in (suc n) k l = elim (eq-or-lt-of-le l) [ inl e ↦ inl (omega arith) | inr m ↦ inr (below-in n k (omega arith)) ]
 
 -- a list without a number of it is shorter
-without : (z : ℕ) (s : List ℕ) → In z s → (t : List ℕ) × (suc (length t) ≡ length s) × ((k : ℕ) → In k s → k ≢ z → In k t)
+pub without : (z : ℕ) (s : List ℕ) → In z s → (t : List ℕ) × (suc (length t) ≡ length s) × ((k : ℕ) → In k s → k ≢ z → In k t)
 without z [] m = absurd m
 without z (a ∷ s) (inl e) = (s, refl, λ k m d. elim m [ inl f ↦ absurd (omega arith) | inr n ↦ n ])
 without z (a ∷ s) (inr m) =
@@ -39,12 +39,12 @@ without z (a ∷ s) (inr m) =
     (a ∷ r .0, ap suc (r .1), λ k n d. elim n [ inl f ↦ inl f | inr o ↦ inr (r .2 k o d) ])
 
 -- steps of R lead from i to j over numbers of a list
-data Over (R : ℕ → ℕ → Type 0) (s : List ℕ) : ℕ → ℕ → Type 0 where
+pub data Over (R : ℕ → ℕ → Type 0) (s : List ℕ) : ℕ → ℕ → Type 0 where
   straight : {i j : ℕ} → R i j → Over R s i j
   over : {i j : ℕ} (k : ℕ) → In k s → R i k → Over R s k j → Over R s i j
 
 -- the same with one number less, or from that number
-cut : {R : ℕ → ℕ → Type 0} {s t : List ℕ} {i j : ℕ} (z : ℕ) → ((k : ℕ) → In k s → k ≢ z → In k t) → Over R s i j → Over R t i j ⊎ Over R t z j
+pub cut : {R : ℕ → ℕ → Type 0} {s t : List ℕ} {i j : ℕ} (z : ℕ) → ((k : ℕ) → In k s → k ≢ z → In k t) → Over R s i j → Over R t i j ⊎ Over R t z j
 cut z keep (straight r) = inl (straight r)
 cut {R} {s} {t} z keep (over {i = i} {j = j} k m r o) = go (cut z keep o) (settle (isEqual k z))
   where
@@ -53,7 +53,7 @@ cut {R} {s} {t} z keep (over {i = i} {j = j} k m r o) = go (cut z keep o) (settl
     go (inl p) (inl e) = inr (rw e at p)
     go (inl p) (inr d) = inl (over k (keep k m d) r p)
 
-plus-over : {R : ℕ → ℕ → Type 0} {n i j : ℕ} → ((i j : ℕ) → R i j → j < n) → Plus R i j → Over R (below n) i j
+pub plus-over : {R : ℕ → ℕ → Type 0} {n i j : ℕ} → ((i j : ℕ) → R i j → j < n) → Plus R i j → Over R (below n) i j
 plus-over low (last r) = straight r
 plus-over {n = n} low (next {i = i} k r p) = over k (below-in n k (low i k r)) r (plus-over low p)
 

@@ -8,8 +8,8 @@ use mathlib.Core.Option.{Option, none, some}
 use native.Mathlib.Nat.{eq-or-lt-of-le, suc-inj}
 use native.Mathlib.Omega.{arith}
 use lib.Dec.{T}
-use Rattle.verdict.specs.Breaches.{Lex}
-use Rattle.verdict.proofs.Firsts.{lex-cases}
+use Rattle.table.specs.Lex.{Lex}
+use Rattle.table.proofs.Lex.{lex-cases}
 
 -- bounds for the numbers of a list, each by those before it
 pub data Box : Type 0 where

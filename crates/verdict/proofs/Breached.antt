@@ -14,12 +14,14 @@ use Rattle.policy.specs.Renewed.{Renewed, by-both, Barred}
 use Rattle.policy.specs.steps.Squares.{Square}
 use Rattle.policy.proofs.SquareLaws.{marked-told, told-marked}
 use Rattle.policy.proofs.Reaches.{reached-from, reached-to}
-use Rattle.verdict.specs.Breaches.{conditionNumber, StarBroken, at-exchange, at-below, InsertDeleteBreach, ChainBreach, CycleBreach, BreachOf, key, Lex}
+use Rattle.verdict.specs.Breaches.{conditionNumber, StarBroken, at-exchange, at-below, InsertDeleteBreach, ChainBreach, CycleBreach, BreachOf, key}
 use Rattle.verdict.specs.steps.Visits.{starSpot, Broken, FirstAt, Searched, none, first, BreachAt, CycleAt}
 use Rattle.verdict.specs.declared.Spot.{Spot}
 use Rattle.verdict.specs.declared.Condition.{Condition}
 use Rattle.verdict.specs.declared.Condition.the-variants.{InsertDelete, Chain, Cycle}
-use Rattle.verdict.proofs.Firsts.{lex-more, lex-end, lex-cases, Cases, breach-cases}
+use Rattle.table.specs.Lex.{Lex}
+use Rattle.table.proofs.Lex.{lex-more, lex-end, lex-cases}
+use Rattle.verdict.proofs.Firsts.{Cases, breach-cases}
 
 module _ (ws marks : List ℕ) (B : ℕ → ℕ → Type 0) (x : ℕ) where
   kind-here : (s : Spot) {k : ℕ} → s .element ≡ x → kindIn (ruleAt ws (s .element)) ≡ k → kindIn (ruleAt ws x) ≡ k

@@ -1,22 +1,30 @@
 -- What breaks a spot: the lowest privilege and how many there are, by its condition. Assumes nothing.
-use Prim.Native.Nat.{ℕ, _<_}
-use mathlib.Core.Path.{_≡_, refl, sym, subst, subst⁻¹, _∙_}
+use Prim.Native.Nat.{ℕ, _≤_, _<_}
+use mathlib.Core.Path.{_≡_, refl, sym, ap, subst, subst⁻¹, _∙_}
 use mathlib.Core.Logic.{_≢_, inl, inr}
-use mathlib.Core.List.{List}
+use mathlib.Core.List.{List, []}
+use native.Mathlib.Omega.{arith}
+use lib.ListN.{length}
 use Rattle.table.specs.HowMany.{Tallied, some, nothing}
-use Rattle.table.specs.Rule.{childAt}
+use Rattle.table.specs.Rule.{IsChoice, childAt}
 use Rattle.table.specs.declared.privilege.Numbering.{Numbering}
 use Rattle.table.specs.Privilege.{privileges, exchangeOf, replaceOf}
 use Rattle.table.specs.Privilege as edit
+use Rattle.table.specs.Check.{Accepted}
+use Rattle.table.proofs.Facts.{facts}
 use Rattle.table.proofs.HowMany.{tallied-one, tallied-as, tallied-single}
 use Rattle.table.proofs.Privileges.{belongs-below, edit-below}
-use Rattle.policy.specs.Marks.{Allowed}
+use Rattle.policy.specs.Marks.{Allowed, Policy}
+use Rattle.policy.specs.Reached.{Step}
 use Rattle.policy.specs.Renewed.{Renewed, Barred}
 use Rattle.policy.specs.steps.Renewing.{BarredIn, RenewalIn}
 use Rattle.policy.specs.declared.renew.Renewal.{Renewal}
 use Rattle.policy.specs.declared.renew.Renewal.the-variants as Renewal
+use Rattle.chain.specs.Chain.{Fewest, chainOf, ShortestChain}
+use Rattle.chain.specs.declared.Chain.{Chain as Chained}
+use Rattle.chain.proofs.Chains.{fewest-short, chain-places}
 use Rattle.verdict.specs.Below.{ForbiddenBelow}
-use Rattle.verdict.specs.Breaches.{spotOf, StarBroken, at-exchange, at-below, InsertDeleteBreach, ChainBreach, CycleBreach, BreachOf, IsBreach, FirstSpot, FirstBreach}
+use Rattle.verdict.specs.Breaches.{spotOf, chainIn, StarBroken, at-exchange, at-below, InsertDeleteBreach, ChainBreach, CycleBreach, BreachOf, IsBreach, FirstSpot, StepsOf, ChainAt, FirstBreach, Verdict, clean, broken}
 use Rattle.verdict.specs.Breaches.{PassesOn, star, replace, chain, cycle}
 use Rattle.verdict.specs.Conditions.{Clean}
 use Rattle.verdict.specs.steps.Visits.{Searched, none, first}
@@ -32,9 +40,21 @@ unbarred Renewal.Shut h d b = h (inl (b .both))
 unbarred Renewal.Barred h d b = d refl
 unbarred Renewal.Open h d b = h .0 b
 
+-- 17 places hold the chain of a breach
+pub record Fits (b : Breach) : Type 0 where
+  pub few : b .length ≤ 17
+  pub size : length (b .chain) ≡ 17
+
 module _ (ws marks : List ℕ) where
   abbrev Here : ℕ → ℕ → Type 0
   Here = ForbiddenBelow ws marks
+
+  -- a spot is broken as its condition says
+  abbrev pub BrokenAs : Spot → ℕ → Type 0
+  BrokenAs s p = (k : Condition) → s .condition ≡ k → BreachOf ws marks Here k s p
+
+  pub broken-as : (s : Spot) (p : ℕ) → IsBreach ws marks s p → BrokenAs s p
+  broken-as s p h k e = subst (λ (c : Condition). BreachOf ws marks Here c s p) e h
 
   star-below : {x p : ℕ} → StarBroken ws marks Here x p → p < privileges ws
   star-below {x} (at-exchange b e) = rw e (edit-below ws (edit.exchange x) (b .can))
@@ -105,16 +125,30 @@ module _ (ws marks : List ℕ) where
       tally-cycle : {l c : ℕ} → Tallied (IsBreach ws marks s) (privileges ws) l c → Tallied (Here (childAt ws (s .element) (s .i))) (privileges ws) l c
       tally-cycle = tallied-as (λ q k. cycle-out q) (λ q k. cycle-into q)
 
+  -- the chain of a spot, by its condition
+  module _ {s : Spot} {c : Chained} where
+    chain-of : {k : Condition} → s .condition ≡ k → (ps : List ℕ) → StepsOf ws marks k s ps → c ≡ chainOf ps → ChainAt ws marks s c
+    chain-of e ps h are = record { positions = ps; steps = subst⁻¹ (λ (k : Condition). StepsOf ws marks k s ps) e h; are = are }
+
+    pub no-steps : s .condition ≡ InsertDelete → c ≡ chainOf [] → ChainAt ws marks s c
+    no-steps e are = chain-of e [] refl are
+
+    pub chain-steps : s .condition ≡ Chain → ShortestChain (Step ws (Allowed marks) (s .element)) (s .i) (s .j) c → ChainAt ws marks s c
+    chain-steps e h = chain-of e (h .positions) (h .fewest) (h .is)
+
+    pub cycle-steps : s .condition ≡ Cycle → s .j ≡ s .i → ShortestChain (Step ws (Allowed marks) (s .element)) (s .i) (s .i) c → ChainAt ws marks s c
+    cycle-steps e same h = chain-of e (h .positions) (subst⁻¹ (λ (k : ℕ). Fewest (Step ws (Allowed marks) (s .element)) (s .i) k (h .positions)) same (h .fewest)) (h .is)
+
   -- a search that finds no spot has shown that the policy is clean
   pub searched-clean : {s : Spot} → Searched (IsBreach ws marks) s → s .condition ≡ None → Clean ws marks
   searched-clean (none e n) k = none-clean ws marks n
   searched-clean {s} (first f) k = absurd (broken-some ws marks Here s (f .broken .0) (f .broken .1) k)
 
-  -- the first breach is the first spot with what breaks it
+  -- the first breach is the first spot with what breaks it and its chain
   pub tally-first : {b : Breach} → FirstSpot (IsBreach ws marks) (spotOf b) → Tallied (IsBreach ws marks (spotOf b)) (privileges ws) (b .privilege) (b .forbidden)
-      → FirstBreach ws marks b
-  tally-first {b} f (some l h least n) = record { spot = f; breach = h; lowest = λ q g. least q (breach-below (spotOf b) q g) g; count = n }
-  tally-first {b} f (nothing n e z) = let p = f .broken .0 in let h = f .broken .1 in absurd (n p (breach-below (spotOf b) p h) h)
+      → ChainAt ws marks (spotOf b) (chainIn b) → FirstBreach ws marks b
+  tally-first {b} f (some l h least n) s = record { spot = f; breach = h; lowest = λ q g. least q (breach-below (spotOf b) q g) g; count = n; chain = s }
+  tally-first {b} f (nothing n e z) s = let p = f .broken .0 in let h = f .broken .1 in absurd (n p (breach-below (spotOf b) p h) h)
 
   -- and its count is what the document says
   pub passes-on : {b : Breach} → FirstBreach ws marks b → PassesOn ws marks b
@@ -133,3 +167,21 @@ module _ (ws marks : List ℕ) where
       broken : b .condition ≡ InsertDelete → InsertDeleteBreach ws marks Here s (b .privilege) → StarBroken ws marks Here (b .element) (b .privilege) → PassesOn ws marks b
       broken e h (at-exchange c q) = replace e c q (tallied-one (tally-star s e h told) (barred-tally c q) .1)
       broken e h (at-below d r w) = star e d (tally-below d r (tally-star s e h told))
+
+  -- a chain has at most 17 positions
+  steps-few : Accepted ws → {b : Breach} → FirstBreach ws marks b → (ps : List ℕ) → StepsOf ws marks (b .condition) (spotOf b) ps → length ps ≤ 17
+  steps-few a {b} f ps = elim (breach-cases ws marks Here (spotOf b) (b .privilege) (f .breach)) [
+    | inl (e, h) ↦ λ s. let none : ps ≡ [] = subst (λ (k : Condition). StepsOf ws marks k (spotOf b) ps) e s in rw none (omega arith)
+    | inr (inl (e, h)) ↦ λ s. at (h .choice) (subst (λ (k : Condition). StepsOf ws marks k (spotOf b) ps) e s)
+    | inr (inr (e, h)) ↦ λ s. at (h .choice) (subst (λ (k : Condition). StepsOf ws marks k (spotOf b) ps) e s)
+  ]
+    where
+      at : IsChoice ws (b .element) → Fewest (Step ws (Allowed marks) (b .element)) (b .i) (b .j) ps → length ps ≤ 17
+      at c s = omega (arith, fewest-short (λ x y t. t .can .to) s, facts a .children-few (b .element) (c .type))
+
+  pub verdict-fits : Policy ws marks → {b : Breach} → Verdict ws marks b → Fits b
+  verdict-fits pol {b} (clean q e) = subst⁻¹ Fits e (record { few = omega arith; size = refl })
+  verdict-fits pol {b} (broken f) =
+      let c = f .chain in
+      let few = steps-few (pol .accepted) f (c .positions) (c .steps) in
+      record { few = omega (arith, ap (λ (d : Chained). d .length) (c .are)); size = ap (λ (d : Chained). length (d .at)) (c .are) ∙ chain-places (c .positions) few }

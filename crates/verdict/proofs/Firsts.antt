@@ -7,42 +7,22 @@ use native.Mathlib.Omega.{arith}
 use lib.ListN.{length, getD}
 use Rattle.table.specs.Words.{types}
 use Rattle.table.specs.Privilege.{exchangeOf, replaceOf}
-use Rattle.table.proofs.Lists.{le-or-lt}
 use Rattle.table.proofs.HowMany.{many-one}
+use Rattle.table.specs.Lex.{Lex}
+use Rattle.table.proofs.Lex.{lex-cases, lex-tri}
 use Rattle.policy.specs.Renewed.{Barred}
+use Rattle.chain.specs.Chain.{chainOf}
+use Rattle.chain.specs.declared.Chain.{Chain as Chained}
+use Rattle.chain.proofs.Chains.{fewest-one}
 use Rattle.verdict.specs.Below.{ForbiddenBelow}
 use Rattle.verdict.specs.Conditions.{Clean}
-use Rattle.verdict.specs.Breaches.{conditionNumber, spotOf, at-exchange, at-below, InsertDeleteBreach, ChainBreach, CycleBreach, BreachOf, BreachBy, IsBreach, key}
-use Rattle.verdict.specs.Breaches.{Lex, less, same, FirstSpot, FirstBreach, Verdict, clean, broken}
+use Rattle.verdict.specs.Breaches.{conditionNumber, spotOf, chainIn, at-exchange, at-below, InsertDeleteBreach, ChainBreach, CycleBreach, BreachOf, BreachBy, IsBreach, key}
+use Rattle.verdict.specs.Breaches.{FirstSpot, StepsOf, ChainAt, FirstBreach, Verdict, clean, broken}
 use Rattle.verdict.specs.steps.Visits.{Searched, none, first, BreachAt}
 use Rattle.verdict.specs.declared.Spot.{Spot}
 use Rattle.verdict.specs.declared.Breach.{Breach}
 use Rattle.verdict.specs.declared.Condition.{Condition}
 use Rattle.verdict.specs.declared.Condition.the-variants.{None, InsertDelete, Chain, Cycle}
-
--- the order of lists of numbers
-pub lex-cases : {a b : ℕ} {s t : List ℕ} → Lex (a ∷ s) (b ∷ t) → (a < b) ⊎ ((a ≡ b) × Lex s t)
-lex-cases (less l) = inl l
-lex-cases (same l) = inr (refl, l)
-
-pub lex-more : {a b : ℕ} {s t : List ℕ} → b ≤ a → Lex (a ∷ s) (b ∷ t) → Lex s t
-lex-more h l = elim (lex-cases l) [ inl k ↦ absurd (omega arith) | inr r ↦ r .1 ]
-
-pub lex-end : ¬ Lex [] []
-lex-end l = elim l [ ]
-
-lex-tri : (s t : List ℕ) → length s ≡ length t → Lex s t ⊎ (s ≡ t) ⊎ Lex t s
-lex-tri [] [] h = inr (inl refl)
-lex-tri [] (b ∷ t) h = absurd (omega arith)
-lex-tri (a ∷ s) [] h = absurd (omega arith)
-lex-tri (a ∷ s) (b ∷ t) h = go (le-or-lt a b) (le-or-lt b a) (lex-tri s t (omega arith))
-  where
-    go : (a ≤ b) ⊎ (b < a) → (b ≤ a) ⊎ (a < b) → Lex s t ⊎ (s ≡ t) ⊎ Lex t s → Lex (a ∷ s) (b ∷ t) ⊎ (a ∷ s ≡ b ∷ t) ⊎ Lex (b ∷ t) (a ∷ s)
-    go (inl g) (inr l) r = inl (less l)
-    go (inr g) l r = inr (inr (less g))
-    go (inl g) (inl l) (inl k) = let e : a ≡ b = omega arith in inl (rw e (same k))
-    go (inl g) (inl l) (inr (inl f)) = let e : a ≡ b = omega arith in inr (inl (cc))
-    go (inl g) (inl l) (inr (inr k)) = let e : a ≡ b = omega arith in inr (inr (rw e (same k)))
 
 -- a spot is known by its key
 abbrev pub conditionOf : ℕ → Condition
@@ -63,8 +43,27 @@ key-one s t h =
     let j : s .j ≡ t .j = cc in
     λ d. record { condition = e d; element = x d; i = i d; j = j d }
 
-breach-one : (b c : Breach) → spotOf b ≡ spotOf c → b .privilege ≡ c .privilege → b .forbidden ≡ c .forbidden → b ≡ c
-breach-one b c e p n = λ d. record { condition = e d .condition; element = e d .element; i = e d .i; j = e d .j; privilege = p d; forbidden = n d }
+breach-one : (b c : Breach) → spotOf b ≡ spotOf c → b .privilege ≡ c .privilege → b .forbidden ≡ c .forbidden → chainIn b ≡ chainIn c → b ≡ c
+breach-one b c e p n s = λ d. record {
+  condition = e d .condition;
+  element = e d .element;
+  i = e d .i;
+  j = e d .j;
+  privilege = p d;
+  forbidden = n d;
+  length = s d .length;
+  chain = s d .at;
+}
+
+-- a spot has one chain
+steps-one : (ws marks : List ℕ) (k : Condition) (s : Spot) {ps qs : List ℕ} → StepsOf ws marks k s ps → StepsOf ws marks k s qs → ps ≡ qs
+steps-one ws marks None s e f = e ∙ sym f
+steps-one ws marks InsertDelete s e f = e ∙ sym f
+steps-one ws marks Chain s f g = fewest-one f g
+steps-one ws marks Cycle s f g = fewest-one f g
+
+chain-at-one : {ws marks : List ℕ} {s : Spot} {c d : Chained} → ChainAt ws marks s c → ChainAt ws marks s d → c ≡ d
+chain-at-one {ws} {marks} {s} f g = f .are ∙ ap chainOf (steps-one ws marks (s .condition) s (f .steps) (g .steps)) ∙ sym (g .are)
 
 -- the first spot is one
 pub spot-one : {Breaks : Spot → ℕ → Type 0} {s t : Spot} → FirstSpot Breaks s → FirstSpot Breaks t → s ≡ t
@@ -143,6 +142,7 @@ module _ (ws marks : List ℕ) where
       let e : spotOf b ≡ spotOf c = spot-one (f .spot) (g .spot) in
       breach-one b c e (omega (arith, f .lowest (c .privilege) (rw e (g .breach)), g .lowest (b .privilege) (rw (← e) (f .breach))))
       (many-one (f .count) (rw e (g .count)))
+      (chain-at-one (f .chain) (rw e (g .chain)))
 
   -- a clean policy has no breach, and one with none is clean
   pub clean-none : Clean ws marks → (s : Spot) (p : ℕ) → ¬ IsBreach ws marks s p

@@ -25,7 +25,8 @@ use Rattle.verdict.specs.declared.below.Tally.{Tally}
 use Rattle.policy.specs.Reached.{Step, Reached}
 use Rattle.policy.specs.Renewed.{Both, Renewed, by-both, by-exchange, Barred}
 use Rattle.verdict.specs.Breaches.{conditionNumber, noBreach, StarBroken, at-exchange, at-below, InsertDeleteBreach, ChainBreach, CycleBreach, BreachOf, IsBreach}
-use Rattle.verdict.specs.Breaches.{Lex, less, same, Verdict, clean, broken}
+use Rattle.verdict.specs.Breaches.{StepsOf, Verdict, clean, broken}
+use Rattle.table.specs.Lex.{Lex, less, same}
 use Rattle.verdict.specs.declared.Breach.{Breach}
 use Rattle.verdict.specs.declared.Spot.{Spot}
 use Rattle.verdict.specs.declared.Condition.{Condition}
@@ -37,6 +38,8 @@ use Rattle.verdict.proofs.Firsts.{conditionOf, condition-of, Cases, bre
 use Rattle.verdict.proofs.Breakers.{breach-below}
 use Rattle.policy.proofs.Policies.{table-accepted}
 use Rattle.table.proofs.Walks.{closure}
+use Rattle.chain.specs.Chain.{Fewest, chainOf}
+use Rattle.chain.proofs.ChainTests.{chainBy, chain-by}
 use Rattle.table.proofs.BelowTests.{below}
 use Rattle.verdict.proofs.Boxes.{Box, end, more, Inside, firstIn, Finds, first-in}
 use Rattle.policy.proofs.Reaches.{reached-from}
@@ -151,6 +154,29 @@ module _ (ws marks : List ℕ) where
   abbrev pub breach : (s : Spot) (p : ℕ) → Test (IsBreach ws marks s p)
   breach s p = breachOf (s .condition) s p
 
+  abbrev between : Spot → List ℕ
+  between s = chainBy (countOf ws (s .element)) (λ a b t. t .can .to) (step (s .element)) (s .j) (s .i)
+
+  between-is : (s : Spot) → Reached ws (Allowed marks) (s .element) (s .i) (s .j) → Fewest (Step ws (Allowed marks) (s .element)) (s .i) (s .j) (between s)
+  between-is s = chain-by (countOf ws (s .element)) (λ a b t. t .can .to) (step (s .element)) (s .j) (s .i)
+
+  -- the positions of a spot's chain
+  abbrev pub stepsBy : Condition → Spot → List ℕ
+  stepsBy None s = []
+  stepsBy InsertDelete s = []
+  stepsBy Chain s = between s
+  stepsBy Cycle s = between s
+
+  pub steps-by : (c : Condition) (s : Spot) (p : ℕ) → BreachOf ws marks Here c s p → StepsOf ws marks c s (stepsBy c s)
+  steps-by None s p h = absurd h
+  steps-by InsertDelete s p h = refl
+  steps-by Chain s p h = between-is s (h .reached)
+  steps-by Cycle s p h = between-is s (subst⁻¹ (λ (k : ℕ). Reached ws (Allowed marks) (s .element) (s .i) k) (h .same) (h .reached))
+
+-- a breach: condition, type, i, j, privilege, how many are forbidden, and the positions of its chain
+abbrev pub at : Condition → ℕ → ℕ → ℕ → ℕ → ℕ → List ℕ → Breach
+at c x i j p count ps = record { condition = c; element = x; i = i; j = j; privilege = p; forbidden = count; length = chainOf ps .length; chain = chainOf ps .at }
+
 -- a spot and a privilege there as a list of five numbers, and back
 abbrev listed : Spot → ℕ → List ℕ
 listed s p = s .element ∷ conditionNumber (s .condition) ∷ s .i ∷ s .j ∷ p ∷ []
@@ -174,17 +200,11 @@ number-of (suc (suc (suc zero))) l = refl
 number-of (suc (suc (suc (suc c)))) l = absurd (omega arith)
 
 module _ (ws marks : List ℕ) where
-  -- the breach of a list, with how many privileges break its spot
+  -- the breach of a list, with how many privileges break its spot, and its chain
   abbrev breachOr : Option (List ℕ) → Breach
   breachOr none = noBreach
-  breachOr (found l) = record {
-    condition = conditionOf (getD l 1 0);
-    element = getD l 0 0;
-    i = getD l 2 0;
-    j = getD l 3 0;
-    privilege = getD l 4 0;
-    forbidden = countBy (privileges ws) (breach ws marks (spotIn l));
-  }
+  breachOr (found l) = at (conditionOf (getD l 1 0)) (getD l 0 0) (getD l 2 0) (getD l 3 0) (getD l 4 0) (countBy (privileges ws) (breach ws marks (spotIn l)))
+      (stepsBy ws marks (conditionOf (getD l 1 0)) (spotIn l))
 
   -- the bounds of a breach's key: type, condition, i, j, privilege; condition 1 has i = j = 0
   abbrev width : ℕ → ℕ → ℕ
@@ -241,6 +261,7 @@ module _ (ws marks : List ℕ) where
     breach = here;
     lowest = λ q b. elim (le-or-lt (getD l 4 0) q) [ inl k ↦ k | inr k ↦ absurd (before (spotIn l) q b (same (same (same (same (less k)))))) ];
     count = count-by (privileges ws) (breach ws marks (spotIn l));
+    chain = record { positions = stepsBy ws marks (conditionOf (getD l 1 0)) (spotIn l); steps = steps-by ws marks (conditionOf (getD l 1 0)) (spotIn l) (getD l 4 0) here; are = refl };
   })
     where
       here : IsBreach ws marks (spotIn l) (getD l 4 0)

@@ -1,15 +1,19 @@
--- A breach, the stated order of breaches, the first breach and the verdict (document 01, "The three conditions"; document 02, orders 9 and 8).
+-- A breach, the stated order of breaches, the first breach and the verdict (document 01, "The three conditions"; document 02, orders 9, 8 and 6).
 -- Assumes nothing.
-use Prim.Native.Nat.{ℕ, _≤_, _<_}
+use Prim.Native.Nat.{ℕ, _≤_}
 use mathlib.Core.Path.{_≡_}
 use mathlib.Core.List.{List, [], _∷_}
+use lib.ListN.{replicate}
 use Rattle.table.specs.Rule.{IsChoice, IsStar, childAt}
 use Rattle.table.specs.HowMany.{HowMany}
+use Rattle.table.specs.Lex.{Lex}
 use Rattle.table.specs.Privilege.{privileges, exchangeOf, replaceOf, Replaceable}
 use Rattle.policy.specs.Marks.{Allowed, Forbidden}
 use Rattle.verdict.specs.Below.{ForbiddenBelow, ForbiddenTally}
-use Rattle.policy.specs.Reached.{Reached}
+use Rattle.policy.specs.Reached.{Step, Reached}
 use Rattle.policy.specs.Renewed.{Renewed, Barred}
+use Rattle.chain.specs.Chain.{Fewest, chainOf}
+use Rattle.chain.specs.declared.Chain.{Chain as Chained}
 use Rattle.verdict.specs.Conditions.{Clean}
 use Rattle.verdict.specs.declared.Breach.{Breach}
 use Rattle.verdict.specs.declared.Spot.{Spot}
@@ -23,9 +27,13 @@ conditionNumber InsertDelete = 1
 conditionNumber Chain = 2
 conditionNumber Cycle = 3
 
--- no breach: five zeros, and the count 0
+-- the chain of a breach: its length and its places
+abbrev pub chainIn : Breach → Chained
+chainIn b = record { length = b .length; at = b .chain }
+
+-- no breach: five zeros, the count 0, and the empty chain
 abbrev pub noBreach : Breach
-noBreach = record { condition = None; element = 0; i = 0; j = 0; privilege = 0; forbidden = 0 }
+noBreach = record { condition = None; element = 0; i = 0; j = 0; privilege = 0; forbidden = 0; length = 0; chain = replicate 17 0 }
 
 -- where a breach is: the condition, the type at which it is broken, and the two positions there
 abbrev pub spotOf : Breach → Spot
@@ -76,21 +84,31 @@ IsBreach ws marks s p = BreachBy ws marks (ForbiddenBelow ws marks) s p
 abbrev pub key : Spot → List ℕ
 key s = s .element ∷ conditionNumber (s .condition) ∷ s .i ∷ s .j ∷ []
 
-pub data Lex : List ℕ → List ℕ → Type 0 where
-  less : {a b : ℕ} {s t : List ℕ} → a < b → Lex (a ∷ s) (b ∷ t)
-  same : {a : ℕ} {s t : List ℕ} → Lex s t → Lex (a ∷ s) (a ∷ t)
-
 -- the first spot that is broken; Breaks s p says that p breaks it
 pub record FirstSpot (Breaks : Spot → ℕ → Type 0) (s : Spot) : Type 0 where
   pub broken : (p : ℕ) × Breaks s p
   pub first : (t : Spot) (q : ℕ) → Breaks t q → ¬ Lex (key t) (key s)
 
--- the first breach: at the first spot, by the lowest privilege, and how many privileges break it
+-- the positions of a breach's chain: "for conditions 2 and 3 the fewest allowed replacements from i to j"; "otherwise the chain is empty"
+abbrev pub StepsOf : List ℕ → List ℕ → Condition → Spot → List ℕ → Type 0
+StepsOf ws marks None s ps = ps ≡ []
+StepsOf ws marks InsertDelete s ps = ps ≡ []
+StepsOf ws marks Chain s ps = Fewest (Step ws (Allowed marks) (s .element)) (s .i) (s .j) ps
+StepsOf ws marks Cycle s ps = Fewest (Step ws (Allowed marks) (s .element)) (s .i) (s .j) ps
+
+-- the chain of a spot
+pub record ChainAt (ws marks : List ℕ) (s : Spot) (c : Chained) : Type 0 where
+  pub positions : List ℕ
+  pub steps : StepsOf ws marks (s .condition) s positions
+  pub are : c ≡ chainOf positions
+
+-- the first breach: at the first spot, by the lowest privilege, how many privileges break it, and the chain
 pub record FirstBreach (ws marks : List ℕ) (b : Breach) : Type 0 where
   pub spot : FirstSpot (IsBreach ws marks) (spotOf b)
   pub breach : IsBreach ws marks (spotOf b) (b .privilege)
   pub lowest : (q : ℕ) → IsBreach ws marks (spotOf b) q → b .privilege ≤ q
   pub count : HowMany (IsBreach ws marks (spotOf b)) (privileges ws) (b .forbidden)
+  pub chain : ChainAt ws marks (spotOf b) (chainIn b)
 
 -- no breach if no condition is broken, else the first
 pub data Verdict (ws marks : List ℕ) (b : Breach) : Type 0 where

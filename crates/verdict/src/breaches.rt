@@ -1,5 +1,5 @@
 // The first breach of a policy, searched for type by type, by the flags that tell below which types something is forbidden: they may be any. What
-// breaks it there is asked once it is found. Contracts cite specs/Breaches, and specs/steps/Visits and specs/steps/Spoils for the parts.
+// breaks it there and its chain are asked once it is found. Contracts cite specs/Breaches, and specs/steps/Visits and specs/steps/Spoils for the parts.
 ghost use mathlib.Core.Path.{_≡_};
 ghost use mathlib.Core.Bool.{true};
 ghost use Prim.Native.Nat.{ℕ, _<_};
@@ -16,7 +16,7 @@ ghost use Rattle.policy.specs.Reached.{Reached};
 ghost use Rattle.policy.specs.Renewed.{Renewed, Barred};
 ghost use Rattle.policy.specs.steps.Squares.{marked, Square, ForbiddenIn};
 ghost use Rattle.verdict.specs.Below.{ForbiddenBelow};
-ghost use Rattle.verdict.specs.Breaches.{noBreach, StarBroken, BreachBy, IsBreach, Verdict};
+ghost use Rattle.verdict.specs.Breaches.{noBreach, StarBroken, BreachBy, IsBreach, FirstSpot, ChainAt, FirstBreach, Verdict};
 ghost use Rattle.verdict.specs.steps.Spoils.{Flagged};
 ghost use Rattle.verdict.specs.steps.Visits.{noSpot, starSpot, Visited, Broken, FirstPair, Searched, BreachAt, CycleAt};
 use super::Breach;
@@ -25,6 +25,9 @@ use super::Spot;
 use super::below::Tally;
 use super::below::forbidden_below;
 use super::spoilt::flag_spoilt;
+use chain::Chain;
+use chain::chain_between;
+use chain::no_chain;
 use policy::reach::reached_by;
 use policy::renew::Renewal;
 use policy::renew::renewal_of;
@@ -55,6 +58,7 @@ pub enum Pair {
 pub fn no_breach() -> Breach
     ensures { λ r. ⌜ r ≡ noBreach ⌝ }
 {
+    let chain = [0u8; 17];
     Breach {
         condition: Condition::None,
         element: 0,
@@ -62,6 +66,8 @@ pub fn no_breach() -> Breach
         j: 0,
         privilege: 0,
         forbidden: 0,
+        length: 0,
+        chain: chain,
     }
 }
 
@@ -313,13 +319,12 @@ fn star_tally(words: &[u16], marks: &[u8], x: usize, n: Numbering) -> Tally
     forbidden_below(words, marks, child_at(words, x, 0))
 }
 
-// What breaks a spot: the lowest privilege and how many there are.
-fn tally_at(words: &[u16], marks: &[u8], spot: Spot) -> Tally
-    requires { ⌜ Policy (now words) (now marks) × ((p : ℕ) × IsBreach (now words) (now marks) spot p) ⌝ }
+// What breaks a spot, by the numbering of its type: the lowest privilege and how many there are.
+fn tally_at(words: &[u16], marks: &[u8], spot: Spot, n: Numbering) -> Tally
+    requires { ⌜ Policy (now words) (now marks) × NumberedAs (now words) (spot .element) n × ((p : ℕ) × IsBreach (now words) (now marks) spot p) ⌝ }
     ensures { λ r. ⌜ Tallied (IsBreach (now (words .entry)) (now (marks .entry)) spot) (privileges (now (words .entry))) (r .lowest) (r .count) ⌝ }
 {
     let x = spot.element;
-    let n = numbers_at(words, x, first_privilege(words, x));
     let condition = spot.condition;
     match condition {
         Condition::None => Tally {
@@ -335,6 +340,45 @@ fn tally_at(words: &[u16], marks: &[u8], spot: Spot) -> Tally
     }
 }
 
+// The chain of a broken spot, by the numbering of its type: conditions 2 and 3 have one.
+fn chain_at(words: &[u16], marks: &[u8], spot: Spot, n: Numbering) -> Chain
+    requires { ⌜ Policy (now words) (now marks) × NumberedAs (now words) (spot .element) n × ((p : ℕ) × IsBreach (now words) (now marks) spot p) ⌝ }
+    ensures { λ r. ⌜ ChainAt (now (words .entry)) (now (marks .entry)) spot r ⌝ }
+{
+    let x = spot.element;
+    let i = spot.i;
+    let condition = spot.condition;
+    match condition {
+        Condition::None => no_chain(),
+        Condition::InsertDelete => no_chain(),
+        Condition::Chain => chain_between(words, marks, x, n, i, spot.j),
+        Condition::Cycle => chain_between(words, marks, x, n, i, i),
+    }
+}
+
+// The breach at the first spot: what breaks it there, and its chain.
+fn breach_of(words: &[u16], marks: &[u8], spot: Spot) -> Breach
+    requires { ⌜ Policy (now words) (now marks) × FirstSpot (IsBreach (now words) (now marks)) spot ⌝ }
+    ensures { λ r. ⌜ FirstBreach (now (words .entry)) (now (marks .entry)) r ⌝ }
+{
+    let x = spot.element;
+    let n = numbers_at(words, x, first_privilege(words, x));
+    let tally = tally_at(words, marks, spot, n);
+    let steps = chain_at(words, marks, spot, n);
+    let condition = spot.condition;
+    let positions = steps.at;
+    Breach {
+        condition: condition,
+        element: x,
+        i: spot.i,
+        j: spot.j,
+        privilege: tally.lowest,
+        forbidden: tally.count,
+        length: steps.length,
+        chain: positions,
+    }
+}
+
 // The first breach of a policy, or none where it is clean. The order holds each type after its children.
 pub fn first_breach(words: &[u16], marks: &[u8], order: &[u8; 256]) -> Breach
     requires { ⌜ Policy (now words) (now marks) × BottomUp (now words) (now order) ⌝ }
@@ -347,13 +391,5 @@ pub fn first_breach(words: &[u16], marks: &[u8], order: &[u8; 256]) -> Breach
     if let Condition::None = condition {
         return no_breach();
     }
-    let tally = tally_at(words, marks, spot);
-    Breach {
-        condition: condition,
-        element: spot.element,
-        i: spot.i,
-        j: spot.j,
-        privilege: tally.lowest,
-        forbidden: tally.count,
-    }
+    breach_of(words, marks, spot)
 }

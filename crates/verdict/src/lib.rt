@@ -38,7 +38,8 @@ pub struct Spot {
     pub j: usize,
 }
 
-// A breach: where it is, the lowest forbidden privilege that breaks the condition there, and how many do. All 0 where there is none.
+// A breach: where it is, the lowest forbidden privilege that breaks the condition there, how many do, and the chain from i to j: how many positions it
+// has, and they themselves. All 0 where there is none.
 pub struct Breach {
     pub condition: Condition,
     pub element: usize,
@@ -46,6 +47,8 @@ pub struct Breach {
     pub j: usize,
     pub privilege: usize,
     pub forbidden: usize,
+    pub length: usize,
+    pub chain: [u8; 17],
 }
 
 // What a call answers.

@@ -97,7 +97,29 @@ pub record Toggled (i k : ℕ) (old new : List ℕ) : Type 0 where
   pub here : marked new i k ≡ not (marked old i k)
   pub rest : (a b : ℕ) → (a ≢ i) ⊎ (b ≢ k) → marked new a b ≡ marked old a b
 
--- rows i share no bit before r, one of count positions or the place behind them
-pub record Unshared (rows others : List ℕ) (i count r : ℕ) : Type 0 where
+-- a word of positions: only the first n may have their bit
+abbrev pub Inside : ℕ → ℕ → Type 0
+Inside n word = (q : ℕ) → bit word q ≡ true → q < n
+
+-- the word has those of the first n positions that have P, and no others
+pub record Positions (n : ℕ) (P : ℕ → Type 0) (word : ℕ) : Type 0 where
+  pub inside : Inside n word
+  pub tells : (p : ℕ) → p < n → Tells (P p) (bit word p)
+
+-- two words share a position
+pub record Shared (a b : ℕ) : Type 0 where
+  pub at : ℕ
+  pub left : bit a at ≡ true
+  pub right : bit b at ≡ true
+
+-- the lowest of count positions that two words share, or the place behind them where there is none
+pub record LowestShared (a b count r : ℕ) : Type 0 where
   pub within : r ≤ count
-  pub free : (b : ℕ) → b < r → ¬ ((marked rows i b ≡ true) × (marked others i b ≡ true))
+  pub free : (q : ℕ) → q < r → ¬ ((bit a q ≡ true) × (bit b q ≡ true))
+  pub here : r < count → (bit a r ≡ true) × (bit b r ≡ true)
+
+-- the rows lead from p to a position of the word
+pub record Into (n : ℕ) (rows : List ℕ) (word p : ℕ) : Type 0 where
+  pub to : ℕ
+  pub leads : Marked n rows p to
+  pub is : bit word to ≡ true

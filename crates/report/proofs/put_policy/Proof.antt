@@ -7,7 +7,9 @@ use lib.ListN.{length-append}
 use Rattle.lines.specs.Text.{line}
 use Rattle.lines.proofs.Texts.{puts-then}
 use Rattle.lines.proofs.Spaced.{line-length}
-use Rattle.report.specs.Report.{marksWord, verdictWord, answerLine, fiveOf, VerdictLine, refused, judged}
+use Rattle.report.specs.Report.{marksWord, verdictWord, answerLine, numbersOf, VerdictLine, refused, judged}
+use Rattle.verdict.proofs.Breakers.{Fits, verdict-fits}
+use Rattle.report.proofs.Numbers.{verdict-length}
 use Rattle.report.proofs.Results.{marks-judged, marks-refused}
 use Rattle.report.proofs.put_policy.Statement.{statement}
 use Rattle.report.proofs.put_policy.Tie as tie
@@ -35,15 +37,23 @@ returns c =
       few = omega (arith, line-length marksWord (answer .result .number ∷ answer .result .place ∷ []) []);
     }
 
+-- the marks are judged, and the breach has its chain in 17 places
+fit : (c : tie.Else1) → Fits (c .before .before .judge-policy .result .breach)
+fit c =
+    let good = marks-judged (c .before .before .before .before .before .before .pre .0) (c .before .before .judge-policy .ensures) (c .if1 .left) in
+    verdict-fits _ _ (good .0) (good .1)
+
 put-verdict-requires : tie.Need-put-verdict-requires
-put-verdict-requires c κs = search needs
+put-verdict-requires c κs =
+    let fits = fit (c .before) in
+    (omega (arith, c .before .before .before .before .before .before .before .pre .1), fits .few, fits .size)
 
 put-completed-requires : tie.Need-put-completed-requires
 put-completed-requires c κs =
     let start = c .before .before .before .before .before .before .before .before .before .before .before in
     let answer = c .before .before .before .before .before .before .before .judge-policy in
     let verdict = c .before .before .before .put-verdict .ensures in
-    (marks-judged (start .pre .0) (answer .ensures) (c .before .before .before .before .before .if1 .left) .0, omega (arith, start .pre .1, verdict .end, line-length verdictWord (fiveOf (answer .result .breach)) []))
+    (marks-judged (start .pre .0) (answer .ensures) (c .before .before .before .before .before .if1 .left) .0, omega (arith, start .pre .1, verdict .end, verdict-length (answer .result .breach) (fit (c .before .before .before .before .before) .few)))
 
 put-mended-requires : tie.Need-put-mended-requires
 put-mended-requires c κs =
@@ -52,7 +62,7 @@ put-mended-requires c κs =
     let verdict = c .before .before .before .before .before .before .before .put-verdict .ensures in
     let complete = c .before .before .before .put-completed .ensures in (
       marks-judged (start .pre .0) (answer .ensures) (c .before .before .before .before .before .before .before .before .before .if1 .left) .0,
-      omega (arith, start .pre .1, verdict .end, line-length verdictWord (fiveOf (answer .result .breach)) [], complete .puts .end, complete .few),
+      omega (arith, start .pre .1, verdict .end, verdict-length (answer .result .breach) (fit (c .before .before .before .before .before .before .before .before .before) .few), complete .puts .end, complete .few),
     )
 
 same-length-2 : tie.Need-same-length-2
@@ -66,8 +76,8 @@ returns-2 c =
     let complete = c .before .before .before .before .before .before .put-completed .ensures in
     let mended = c .before .before .put-mended .ensures in
     let fits = marks-judged (start .pre .0) (answer .ensures) (c .before .before .before .before .before .before .before .before .before .before .before .before .if1 .left) in
-    let second = line verdictWord (fiveOf (answer .result .breach)) [] in
-    let most = line-length verdictWord (fiveOf (answer .result .breach)) [] in
+    let second = line verdictWord (numbersOf (answer .result .breach)) [] in
+    let most = verdict-length (answer .result .breach) (fit (c .before .before .before .before .before .before .before .before .before .before .before .before) .few) in
     let two = length-append second (complete .text) in
     let three = length-append (second ++ complete .text) (mended .text) in
     record {

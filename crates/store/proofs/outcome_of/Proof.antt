@@ -3,8 +3,8 @@ use borrow.Author.Needs.{needs}
 use Rattle.store.proofs.outcome_of.Statement.{statement}
 use Rattle.store.proofs.outcome_of.Tie as tie
 
-cast-t4 : tie.Need-cast-t4
-cast-t4 c = search needs
+cast-t5 : tie.Need-cast-t5
+cast-t5 c = search needs
 
 number-of-requires : tie.Need-number-of-requires
 number-of-requires c κs = search needs
@@ -13,4 +13,4 @@ returns : tie.Need-returns
 returns c = rw (c .number-of .ensures)
 
 pub outcome-of-spec : {M : Type 1} → statement M
-outcome-of-spec = tie.close (tie.spec cast-t4 number-of-requires returns)
+outcome-of-spec = tie.close (tie.spec cast-t5 number-of-requires returns)

@@ -1,4 +1,4 @@
--- The flags are right, so the spot that was found is the first, and what breaks it there makes the breach. Assumes nothing.
+-- The flags are right, so the spot that was found is the first. Assumes nothing.
 use borrow.Author.Needs.{needs}
 use denote.Ref.{now}
 use Rattle.verdict.specs.Breaches.{IsBreach, clean, broken}
@@ -6,7 +6,7 @@ use Rattle.verdict.specs.steps.Visits.{Searched}
 use Rattle.verdict.proofs.Spoils.{flags-agree}
 use Rattle.verdict.proofs.Firsts.{searched-first, no-tag}
 use Rattle.verdict.proofs.Flagged.{searched-as}
-use Rattle.verdict.proofs.Breakers.{searched-clean, tally-first}
+use Rattle.verdict.proofs.Breakers.{searched-clean}
 use Rattle.verdict.proofs.breaches.first_breach.Statement.{statement}
 use Rattle.verdict.proofs.breaches.first_breach.Tie as tie
 
@@ -29,11 +29,11 @@ no-breach-requires c κs = search needs
 returns : tie.Need-returns
 returns c = let found = c .before .before .before in clean (searched-clean _ _ (searched found) (c .before .enum-told .given .1)) (c .no-breach .ensures)
 
-tally-at-requires : tie.Need-tally-at-requires
-tally-at-requires c κs = let found = c .before in (found .before .before .before .before .before .before .pre .0, searched-first (searched found) (λ e. no-tag (rw e at (c .match .keys2))) .broken)
+breach-of-requires : tie.Need-breach-of-requires
+breach-of-requires c κs = let found = c .before in (found .before .before .before .before .before .before .pre .0, searched-first (searched found) (λ e. no-tag (rw e at (c .match .keys2))))
 
 returns-2 : tie.Need-returns-2
-returns-2 c = broken (tally-first _ _ (searched-first (searched (c .before .before)) (λ e. no-tag (rw e at (c .before .match .keys2)))) (c .tally-at .ensures))
+returns-2 c = broken (c .breach-of .ensures)
 
 pub first-breach-spec : {M : Type 1} → statement M
 first-breach-spec =
@@ -44,5 +44,5 @@ first-breach-spec =
     enum-told
     no-breach-requires
     returns
-    tally-at-requires
+    breach-of-requires
     returns-2)

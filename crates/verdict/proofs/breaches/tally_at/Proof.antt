@@ -3,36 +3,24 @@ use borrow.Author.Needs.{needs}
 use native.Mathlib.Omega.{arith}
 use denote.Ref.{now}
 use Prim.Native.Nat.{_<_}
-use mathlib.Core.Path.{_≡_, subst, _∙_}
+use mathlib.Core.Path.{_∙_}
 use Rattle.table.specs.Words.{types}
-use Rattle.table.proofs.Facts.{facts, accepted-childed, has-children}
+use Rattle.table.proofs.Facts.{facts, has-children}
 use Rattle.table.proofs.Privileges.{numbered-small, replace-in}
 use Rattle.policy.proofs.Reaches.{reached-from}
 use Rattle.verdict.specs.Below.{ForbiddenBelow}
-use Rattle.verdict.specs.Breaches.{BreachOf}
-use Rattle.verdict.specs.declared.Condition.{Condition}
 use Rattle.verdict.proofs.Firsts.{breach-type}
-use Rattle.verdict.proofs.Breakers.{star-tally, chain-tally, cycle-tally}
+use Rattle.verdict.proofs.Breakers.{BrokenAs, broken-as, star-tally, chain-tally, cycle-tally}
 use Rattle.verdict.proofs.breaches.tally_at.Statement.{statement}
 use Rattle.verdict.proofs.breaches.tally_at.Tie as tie
 
 -- the spot is at a type
 is-type : (c : tie.Start) → c .args .spot .element < types (now (c .args .words))
-is-type c = let b = c .pre .1 in breach-type (now (c .args .words)) (now (c .args .marks)) (ForbiddenBelow (now (c .args .words)) (now (c .args .marks))) (c .args .spot) (b .0) (b .1)
+is-type c = let b = c .pre .2 in breach-type (now (c .args .words)) (now (c .args .marks)) (ForbiddenBelow (now (c .args .words)) (now (c .args .marks))) (c .args .spot) (b .0) (b .1)
 
 -- and broken as its condition says
-broken : (c : tie.Start) {k : Condition} → c .args .spot .condition ≡ k → BreachOf (now (c .args .words)) (now (c .args .marks)) (ForbiddenBelow (now (c .args .words)) (now (c .args .marks))) k (c .args .spot) (c .pre .1 .0)
-broken c e = subst (λ (k : Condition). BreachOf (now (c .args .words)) (now (c .args .marks)) (ForbiddenBelow (now (c .args .words)) (now (c .args .marks))) k (c .args .spot) (c .pre .1 .0)) e (c .pre .1 .1)
-
-first-privilege-requires : tie.Need-first-privilege-requires
-first-privilege-requires c κs =
-    let start = c .before .before in
-    (accepted-childed (start .pre .0 .accepted) .tiled .laid, omega (arith, is-type start))
-
-numbers-at-requires : tie.Need-numbers-at-requires
-numbers-at-requires c κs =
-    let start = c .before .before .before in
-    (start .pre .0 .accepted, is-type start, c .first-privilege .ensures .is)
+broken : (c : tie.Start) → BrokenAs (now (c .args .words)) (now (c .args .marks)) (c .args .spot) (c .pre .2 .0)
+broken c = broken-as _ _ (c .args .spot) (c .pre .2 .0) (c .pre .2 .1)
 
 enum-told : tie.Need-enum-told
 enum-told c = search needs
@@ -42,18 +30,18 @@ enum-told-2 c = search needs
 
 star-tally-requires : tie.Need-star-tally-requires
 star-tally-requires c κs =
-    let start = c .before .before .before .before .before .before in
-    let h = broken start (c .enum-told2 .given .1) in
-    (start .pre .0, c .before .before .numbers-at .ensures, h .star, (start .pre .1 .0, h .broken))
+    let start = c .before .before .before .before in
+    let h = broken start _ (c .enum-told2 .given .1) in
+    (start .pre .0, start .pre .1, h .star, (start .pre .2 .0, h .broken))
 
 enum-told-3 : tie.Need-enum-told-3
 enum-told-3 c = search needs
 
 replacement-requires : tie.Need-replacement-requires
 replacement-requires c κs =
-    let start = c .before .before .before .before .before .before in
-    let h = broken start (c .enum-told3 .given .1) in
-    let n = c .before .before .numbers-at .ensures in
+    let start = c .before .before .before .before in
+    let h = broken start _ (c .enum-told3 .given .1) in
+    let n = start .pre .1 in
     record { small = numbered-small n; from = omega (arith, n .count, h .can .from); to = omega (arith, n .count, h .can .to) }
 
 enum-told-4 : tie.Need-enum-told-4
@@ -61,45 +49,43 @@ enum-told-4 c = search needs
 
 child-at-requires : tie.Need-child-at-requires
 child-at-requires c κs =
-    let start = c .before .before .before .before .before .before in
+    let start = c .before .before .before .before in
     has-children (start .pre .0 .accepted) (is-type start)
 
 forbidden-below-requires : tie.Need-forbidden-below-requires
 forbidden-below-requires c κs =
-    let start = c .before .before .before .before .before .before .before in
-    let h = broken start (c .before .enum-told4 .given .1) in
+    let start = c .before .before .before .before .before in
+    let h = broken start _ (c .before .enum-told4 .given .1) in
     let spot = start .args .spot in
     (start .pre .0, rw (c .child-at .ensures) (facts (start .pre .0 .accepted) .child-inside (spot .element) (spot .i) (h .choice .type) (reached-from (h .reached))))
 
 returns : tie.Need-returns
-returns c = absurd (broken (c .before .before .before .before .before .before) (c .enum-told .given .1))
+returns c = absurd (broken (c .before .before .before .before) _ (c .enum-told .given .1))
 
 returns-2 : tie.Need-returns-2
 returns-2 c =
-    let start = c .before .before .before .before .before .before .before in
+    let start = c .before .before .before .before .before in
     let e = c .before .enum-told2 .given .1 in
-    star-tally _ _ (start .args .spot) e (broken start e) (c .star-tally .ensures)
+    star-tally _ _ (start .args .spot) e (broken start _ e) (c .star-tally .ensures)
 
 returns-3 : tie.Need-returns-3
 returns-3 c =
-    let start = c .before .before .before .before .before .before .before in
+    let start = c .before .before .before .before .before in
     let e = c .before .enum-told3 .given .1 in
-    let h = broken start e in
+    let h = broken start _ e in
     let spot = start .args .spot in
-    chain-tally _ _ spot e h (c .replacement .ensures ∙ replace-in (c .before .before .before .numbers-at .ensures) (spot .i) (spot .j))
+    chain-tally _ _ spot e h (c .replacement .ensures ∙ replace-in (start .pre .1) (spot .i) (spot .j))
 
 returns-4 : tie.Need-returns-4
 returns-4 c =
-    let start = c .before .before .before .before .before .before .before .before in
+    let start = c .before .before .before .before .before .before in
     let e = c .before .before .enum-told4 .given .1 in
-    cycle-tally _ _ (start .args .spot) e (broken start e) (rw (c .before .child-at .ensures) at (c .forbidden-below .ensures))
+    cycle-tally _ _ (start .args .spot) e (broken start _ e) (rw (c .before .child-at .ensures) at (c .forbidden-below .ensures))
 
 pub tally-at-spec : {M : Type 1} → statement M
 tally-at-spec =
     tie.close
     (tie.spec
-    first-privilege-requires
-    numbers-at-requires
     enum-told
     enum-told-2
     star-tally-requires
