@@ -1,11 +1,11 @@
 // The five calls written by hand for speed, in plain Rust: what the proved code is measured against.
-// The steps are those of the proved code: a table check that puts the types in order, one bottom-up pass for whether something is forbidden below each
-// type, Warshall's closure for each choice, a count of what is forbidden below the child of the first breach, a completion that opens downwards, a mend
-// in ascending order with the closure made anew for each mark taken. What is done by hand: a table is accepted by a pass over its records that is not
-// left early and looks rules up, one over its child list, and one over the types in their order, which is made meanwhile, without a branch; only a
-// refused one is searched for the first failing check, and for a cycle in one walk; a row of a choice is 16 bits; marks are checked and compared many
-// at a time, read 16 at a time, each mark's bit gathered by a multiplication, and written eight at a time; the format is asked once a call, and what
-// goes by it is compiled for each. Nothing is allocated, and nothing is unsafe.
+// The steps are those of the proved code: a table check that puts the types in order, one bottom-up pass for whether something is forbidden below
+// each type, Warshall's closure for each choice, the chain of the first breach and a count of what is forbidden below its child, a completion that
+// opens downwards, a mend in ascending order with the closure made anew for each mark taken. What is done by hand: a table is accepted by a pass over
+// its records that is not left early and looks rules up, one over its child list, and one over the types in their order, which is made meanwhile,
+// without a branch; only a refused one is searched for the first failing check, and for a cycle in one walk; a row of a choice is 16 bits; marks are
+// checked and compared many at a time, read 16 at a time, each mark's bit gathered by a multiplication, and written eight at a time; the format is
+// asked once a call, and what goes by it is compiled for each. Nothing is allocated, and nothing is unsafe.
 
 use crate::calls::Outcome;
 use std::mem::replace;
@@ -413,7 +413,16 @@ struct Breach {
     i: usize,
     j: usize,
     own: Option<usize>,
+    chain: Chain,
 }
+
+/// The steps of a breach: how many positions there are, both ends among them, and these; 0 behind them.
+struct Chain {
+    length: usize,
+    places: [u8; 17],
+}
+
+const NO_CHAIN: Chain = Chain { length: 0, places: [0; 17] };
 
 /// What is forbidden at a breach: the lowest privilege, and how many there are.
 struct Tally {
@@ -538,6 +547,52 @@ fn first_cycle(reached: &Rows, spoilt: u16) -> Option<usize> {
     (0..16).find(|&i| spoilt & reached[i] & 1 << i != 0)
 }
 
+/// The positions of a row, ascending.
+fn positions(mut row: u16) -> impl Iterator<Item = usize> {
+    std::iter::from_fn(move || {
+        let lowest = row.trailing_zeros() as usize;
+        row &= row.wrapping_sub(1);
+        (lowest < 16).then_some(lowest)
+    })
+}
+
+/// The positions that are met first after each number of steps from i, up to j, which is reached; and how many steps that takes.
+fn met_by_steps(allowed: &Rows, i: usize, j: usize) -> ([u16; 17], usize) {
+    let mut met = [0; 17];
+    let mut unmet = !(1u16 << i) | 1 << j;
+    let (mut here, mut last) = (1u16 << i, 0);
+    while last == 0 || here >> j & 1 == 0 {
+        here = positions(here).fold(0, |all, k| all | allowed[k]) & unmet;
+        unmet &= !here;
+        last += 1;
+        met[last] = here;
+    }
+    (met, last)
+}
+
+/// Leaves of what is met by each number of steps only what leads to what is left of the next, the last being j.
+fn leave_leading(allowed: &Rows, met: &mut [u16; 17], last: usize, j: usize) {
+    met[last] = 1 << j;
+    for at in (1..last).rev() {
+        let next = met[at + 1];
+        let leading = positions(met[at]).filter(|&k| allowed[k] & next != 0);
+        met[at] = leading.fold(0, |all, k| all | 1 << k);
+    }
+}
+
+/// The fewest steps from i to j, which is reached; of equally few those with the lowest position at the first difference.
+fn chain(allowed: &Rows, i: usize, j: usize) -> Chain {
+    let (mut met, last) = met_by_steps(allowed, i, j);
+    leave_leading(allowed, &mut met, last, j);
+    let mut places = [0; 17];
+    places[0] = i as u8;
+    for at in 1..=last {
+        let from = places[at - 1] as usize;
+        places[at] = (allowed[from & 15] & met[at]).trailing_zeros() as u8;
+    }
+    Chain { length: last + 1, places }
+}
+
 /// A bit for each child that has something forbidden below it.
 fn spoilt_in(kids: &[u16], spoilt: &[bool; 256]) -> u16 {
     let bit = |(i, &child): (usize, &u16)| (spoilt[child as usize & 255] as u16) << (i & 15);
@@ -556,10 +611,10 @@ fn choice_breach<const IS_TWO: bool>(
     let reached = reach(&allowed, n);
     if let Some((i, j)) = first_chain(&reached, &forbidden) {
         let own = Some(replacement::<IS_TWO>(first, n, i, j));
-        return Some(Breach { condition: 2, element, i, j, own });
+        return Some(Breach { condition: 2, element, i, j, own, chain: chain(&allowed, i, j) });
     }
     let i = first_cycle(&reached, spoilt_in(kids, spoilt))?;
-    Some(Breach { condition: 3, element, i, j: i, own: None })
+    Some(Breach { condition: 3, element, i, j: i, own: None, chain: chain(&allowed, i, i) })
 }
 
 fn both_allowed(marks: &[u8], first: usize) -> bool {
@@ -578,7 +633,7 @@ fn star_breach<const IS_TWO: bool>(
     kids: &[u16],
     first: usize,
 ) -> Option<Breach> {
-    let at = |own| Some(Breach { condition: 1, element, i: 0, j: 0, own });
+    let at = |own| Some(Breach { condition: 1, element, i: 0, j: 0, own, chain: NO_CHAIN });
     if exchange_is::<IS_TWO>(marks, first, FORBIDDEN) && both_allowed(marks, first) {
         return at(Some(first + 2));
     }
@@ -842,33 +897,28 @@ fn count_changes(marks: &[u8], proposed: &[u8]) -> usize {
 
 // ---------------------------------------------------------------- the five calls
 
-type Told = Result<Outcome, Outcome>;
-
 fn refused((number, place): Refusal) -> Outcome {
     Outcome::refusal(number, place)
 }
 
 fn with_breach(number: usize, breach: Option<(Breach, Tally)>) -> Outcome {
-    let Some((Breach { condition, element, i, j, .. }, tally)) = breach else {
+    let Some((Breach { condition, element, i, j, chain, .. }, tally)) = breach else {
         return Outcome::default();
     };
     let Tally { lowest: privilege, count: forbidden } = tally;
-    Outcome { number, condition, element, i, j, privilege, forbidden, ..Outcome::default() }
-}
-
-fn told(told: Told) -> Outcome {
-    told.unwrap_or_else(|refusal| refusal)
+    let told = Outcome { chain_length: chain.length, chain: chain.places, ..Outcome::default() };
+    Outcome { number, condition, element, i, j, privilege, forbidden, ..told }
 }
 
 pub fn check_table(words: &[u16]) -> Outcome {
     let mut order = [0; 256];
-    told(read_table(words, &mut order).map(|table| Outcome::refusal(0, table.v)).map_err(refused))
+    read_table(words, &mut order).map_or_else(refused, |table| Outcome::refusal(0, table.v))
 }
 
 pub fn judge_policy(words: &[u16], marks: &[u8]) -> Outcome {
     let mut order = [0; 256];
     let judge = |table| with_breach(0, first_breach(&table, marks));
-    told(read_policy(words, marks, &mut order).map(judge).map_err(refused))
+    read_policy(words, marks, &mut order).map_or_else(refused, judge)
 }
 
 pub fn complete(words: &[u16], marks: &[u8], out: &mut [u8]) -> Outcome {
@@ -912,5 +962,5 @@ fn judge_proposal(words: &[u16], marks: &[u8], proposed: &[u8]) -> Result<Outcom
 }
 
 pub fn judge_mend(words: &[u16], marks: &[u8], proposed: &[u8]) -> Outcome {
-    told(judge_proposal(words, marks, proposed).map_err(refused))
+    judge_proposal(words, marks, proposed).unwrap_or_else(refused)
 }

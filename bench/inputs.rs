@@ -1,7 +1,7 @@
 // What is measured: the sample, a table of ordinary size, the largest tables with the worst marks for each call, the last two also with their types
 // renumbered; the sample, the ordinary and a largest table in format 2; the ordinary and the largest tables below a star that breaks condition 1, so that
-// much is counted; tables that are refused for a cycle or a type that is not reached; and tables that double, by
-// themselves and below such a star.
+// much is counted; the same tables by themselves with a long chain at their last choice; tables that are refused for a cycle or a type that is not
+// reached; and tables that double, by themselves and below such a star.
 
 use crate::calls::{Call, Case};
 use crate::fast;
@@ -151,14 +151,18 @@ fn v_of(words: &[u16]) -> usize {
 /// The marks of a choice of 16, the same at each choice of a table of `sized`, and those of its texts, which are the children of each choice; in format 2
 /// there are none.
 fn at_each_choice(words: &[u16], square: impl Fn(usize, usize) -> u8, texts: [u8; 16]) -> Vec<u8> {
-    let is_one = words[0] == ONE;
-    let positions = (0..16).flat_map(|i| (0..16).map(move |j| (i, j)));
-    let positions = positions.filter(|(i, j)| i != j || !is_one);
-    let choice: Vec<u8> = positions.map(|(i, j)| square(i, j)).collect();
-    let texts = if is_one { &texts[..] } else { &[] };
+    let choice = choice_of(words[0], 16, square);
+    let texts = if words[0] == ONE { &texts[..] } else { &[] };
     let mut marks: Vec<u8> = choice.repeat((v_of(words) - texts.len()) / choice.len());
     marks.extend(texts);
     marks
+}
+
+/// The marks of a choice of n.
+fn choice_of(format: u16, n: usize, square: impl Fn(usize, usize) -> u8) -> Vec<u8> {
+    let positions = (0..n).flat_map(|i| (0..n).map(move |j| (i, j)));
+    let positions = positions.filter(|(i, j)| i != j || format != ONE);
+    positions.map(|(i, j)| square(i, j)).collect()
 }
 
 /// Numbers by chance; the same ones for the same seed.
@@ -404,6 +408,43 @@ fn largest_counted(format: u16) -> Input {
     Input { name: named("largest-counted", format), cases }
 }
 
+/// Marks in which the last choice is a round, each kind to be replaced by the next and the last by the first; a replacement is forbidden, if it is one of
+/// the format.
+fn with_round(words: &[u16], mut marks: Vec<u8>, forbidden: (usize, usize)) -> Case {
+    let (format, types) = (words[0], decode(words));
+    let last = types.iter().rposition(|it| it.kind == CHOICE).unwrap_or(0);
+    let n = types[last].children.len();
+    let round = choice_of(format, n, |i, j| match (i, j) {
+        _ if (i, j) == forbidden => FORBIDDEN,
+        _ if (i + 1) % n == j => ALLOWED,
+        _ => UNSET,
+    });
+    let first = types[..last].iter().map(|it| privileges_of(format, it)).sum::<usize>();
+    marks[first..first + round.len()].copy_from_slice(&round);
+    case(words.to_vec(), marks.clone(), marks)
+}
+
+/// The ordinary table, its marks by chance and mended, broken at its last choice, of 8: a chain of 8, or, in format 2, of 9.
+fn ordinary_chain(format: u16) -> Input {
+    let words = ordinary(format);
+    let marks = by_chance(v_of(&words), &[UNSET, ALLOWED, FORBIDDEN], 1);
+    let forbidden = if format == ONE { (0, 7) } else { (0, 0) };
+    let cases = vec![with_round(&words, mended(&words, &marks), forbidden)];
+    Input { name: named("ordinary-chain", format), cases }
+}
+
+/// A largest table, broken at its last choice, with a chain of 17. In format 1 the text of the first kind is forbidden, and no other choice has a way back
+/// to it; in format 2 the first kind by itself is, and the other choices are fully connected.
+fn largest_chain(format: u16) -> Input {
+    let words = largest_table(format);
+    let mut texts = [ALLOWED; 16];
+    texts[0] = FORBIDDEN;
+    let down = |i, j| if j < i || format == TWO { ALLOWED } else { UNSET };
+    let marks = at_each_choice(&words, down, texts);
+    let cases = vec![with_round(&words, marks, (0, 0))];
+    Input { name: named("largest-chain", format), cases }
+}
+
 fn scattered_input(format: u16) -> Input {
     let cases = (1..=8).map(|seed| scattered(largest_table(format), seed)).collect();
     Input { name: named("scattered", format), cases }
@@ -430,6 +471,7 @@ fn inputs_of_one(call: Call) -> Vec<Input> {
         vec![sample(ONE, &SAMPLES), ordinary(), renumbered_input(ordinary()), largest(call, ONE)];
     if judges(call) {
         all.extend([scattered_input(ONE), ordinary_counted(ONE), largest_counted(ONE)]);
+        all.extend([ordinary_chain(ONE), largest_chain(ONE)]);
     }
     if call == Call::JudgeMend {
         all.push(half_changed_input());
@@ -445,6 +487,7 @@ fn inputs_of_two(call: Call) -> Vec<Input> {
     let mut all = vec![sample(TWO, &SAMPLES_OF_TWO), ordinary_input(call, TWO), largest(call, TWO)];
     if judges(call) {
         all.extend([scattered_input(TWO), ordinary_counted(TWO), largest_counted(TWO)]);
+        all.extend([ordinary_chain(TWO), largest_chain(TWO)]);
     }
     all
 }

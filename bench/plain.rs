@@ -7,8 +7,9 @@ use second::{cases, completing, conditions, dtd, mending, table};
 
 fn outcome_of(outcome: second::answers::Outcome) -> Outcome {
     let Answer { number, place, count, breach } = answer(outcome);
-    let Breach { condition, of, i, j, privilege, forbidden } = breach;
-    Outcome { number, place, count, condition, element: of, i, j, privilege, forbidden }
+    let Breach { condition, of: element, i, j, privilege, forbidden, chain } = breach;
+    let told = Outcome { chain_length: chain.length, chain: chain.places, ..Outcome::default() };
+    Outcome { number, place, count, condition, element, i, j, privilege, forbidden, ..told }
 }
 
 pub fn check_table(words: &[u16]) -> Outcome {
