@@ -1,14 +1,14 @@
 /*
- * Finnedscarf: checks a schema table, reads one from DTD text, judges a policy of edits on it, completes and mends the policy, and judges a
- * mend that somebody proposes. The six calls are proved to answer as said here for every input; nothing checks this header against them
- * but tests/store.
+ * Finnedscarf: checks a schema table, reads one from DTD text, judges a policy of edits on it, completes the policy, or those of all roles of
+ * a show at once, mends it, and judges a mend that somebody proposes. The seven calls are proved to answer as said here for every input;
+ * nothing checks this header against them but tests/store.
  *
  * Build the library with `rt staticlib store` and link target/staticlib/libstore.a (x86-64 Linux). For C99 or C++11, or later.
  *
  * What is lent
  *   Each run is a pointer to its first item and the number of its items. With length 0 the pointer may be any, also NULL; else it is never
- *   NULL. `out` overlaps no other run of the call. Nothing else may write to a lent run during the call. `words`, `text`, `marks` and
- *   `proposed` are only read. A call keeps nothing: no pointer, no state, no memory that must be freed.
+ *   NULL. `out` and `numbers` overlap no other run of the call. Nothing else may write to a lent run during the call. `words`, `text`, `marks`
+ *   and `proposed` are only read. A call keeps nothing: no pointer, no state, no memory that must be freed.
  *
  * The table
  *   A run of 16-bit words: 8 words of header, three words for each of the E types, then the C entries of the child list.
@@ -59,7 +59,8 @@ enum {
 
 /*
  * The number of an answer. Checks are made in the order of these lines, 20 to 22 before 1, and 19 between 7 and 8; but of 20 and 21 the earlier
- * byte decides, then the lower number. The place is the lowest at which the check fails, 0 where none is named.
+ * byte decides, then the lower number. The place is the lowest at which the check fails, 0 where none is named. Where all roles are completed at
+ * once, 11 and 16 are numbers of a role and not of the call: they come after 12.
  */
 enum {
     FINNEDSCARF_DONE = 0,             /* done; place: V for a table that is checked or read, else 0 */
@@ -76,13 +77,13 @@ enum {
     FINNEDSCARF_ON_CYCLE = 19,        /* a type on a cycle; place: type */
     FINNEDSCARF_ORPHAN = 8,           /* a type that is not reached from the root; place: type */
     FINNEDSCARF_TOTAL = 9,            /* V is over 4096 or word 7 is not V */
-    FINNEDSCARF_MARKS_LENGTH = 10,    /* marks not V long */
+    FINNEDSCARF_MARKS_LENGTH = 10,    /* marks not V long; of all roles: not V for each */
     FINNEDSCARF_MARK = 11,            /* a mark above 2; place: privilege */
-    FINNEDSCARF_SHORT = 12,           /* result shorter than V, or than the table that is read */
+    FINNEDSCARF_SHORT = 12,           /* result shorter than V, of all roles than V for each, or than the table that is read */
     FINNEDSCARF_PROPOSED_LENGTH = 13, /* proposed marks not V long */
     FINNEDSCARF_PROPOSED_MARK = 14,   /* a proposed mark above 2; place: privilege */
     FINNEDSCARF_CHANGE = 15,          /* a change other than from 1 to 2; place: privilege */
-    FINNEDSCARF_BREACH = 16           /* a breach, which is told; completing: in the policy; judging a mend: in the proposed one */
+    FINNEDSCARF_BREACH = 16           /* a breach, which is told, but not of a role; completing: in the policy; judging a mend: in the proposed one */
 };
 
 /* The condition that a breach breaks. In format 1 a star has no replace, and for condition 2 i differs from j. */
@@ -139,6 +140,17 @@ finnedscarf_outcome finnedscarf_complete(const uint16_t *words, size_t words_len
                                          uint8_t *out, size_t out_length);
 
 /*
+ * Completes the policies of all roles of a show at once, as many as `numbers` has words; the roles' marks stand one after another in `marks`, V
+ * for each. If it is done it answers 0 and nothing else, numbers[r] is the number of role r, and its completed marks are the V bytes of `out`
+ * from r * V on. Both are what finnedscarf_complete gives on the role's own marks and those bytes: with 11 or 16 the bytes are kept, and the
+ * other roles go on. Of such a role that call tells the place or the breach. Bytes of `out` behind the last role's are kept. The whole call is
+ * refused with 1 to 9 or 19 for the table, then with 10 if `marks` is not V bytes for each role, then with 12 if `out` is shorter than that; a
+ * refusal leaves `numbers` and `out` as they were. There may be any number of roles, also none; with V 0 each of them is done.
+ */
+finnedscarf_outcome finnedscarf_complete_roles(const uint16_t *words, size_t words_length, const uint8_t *marks, size_t marks_length,
+                                               uint16_t *numbers, size_t numbers_length, uint8_t *out, size_t out_length);
+
+/*
  * Mends a policy: 0 with a clean policy in the first V bytes of `out`, in which `count` marks went from allowed to forbidden and all
  * others are equal, or 1 to 12 or 19. A refusal leaves `out` as it was; else its bytes from V on are kept. The rule, until the policy is clean:
  * for the first breach forbid, if of condition 1, the delete where insert and delete are both allowed, and replace where they are not; else
@@ -189,6 +201,16 @@ static inline finnedscarf_outcome finnedscarf_complete_lent(const uint16_t *word
     return finnedscarf_complete(FINNEDSCARF_LENT(words, no_word), FINNEDSCARF_LENT(marks, no_byte), FINNEDSCARF_LENT(out, no_byte));
 }
 
+static inline finnedscarf_outcome finnedscarf_complete_roles_lent(const uint16_t *words, size_t words_length, const uint8_t *marks,
+                                                                  size_t marks_length, uint16_t *numbers, size_t numbers_length,
+                                                                  uint8_t *out, size_t out_length)
+{
+    uint16_t no_word = 0;
+    uint8_t no_byte = 0;
+    return finnedscarf_complete_roles(FINNEDSCARF_LENT(words, no_word), FINNEDSCARF_LENT(marks, no_byte),
+                                      FINNEDSCARF_LENT(numbers, no_word), FINNEDSCARF_LENT(out, no_byte));
+}
+
 static inline finnedscarf_outcome finnedscarf_mend_lent(const uint16_t *words, size_t words_length, const uint8_t *marks,
                                                         size_t marks_length, uint8_t *out, size_t out_length)
 {
@@ -211,6 +233,7 @@ static inline finnedscarf_outcome finnedscarf_judge_mend_lent(const uint16_t *wo
 #define finnedscarf_read_dtd finnedscarf_read_dtd_lent
 #define finnedscarf_judge_policy finnedscarf_judge_policy_lent
 #define finnedscarf_complete finnedscarf_complete_lent
+#define finnedscarf_complete_roles finnedscarf_complete_roles_lent
 #define finnedscarf_mend finnedscarf_mend_lent
 #define finnedscarf_judge_mend finnedscarf_judge_mend_lent
 

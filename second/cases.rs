@@ -3,12 +3,15 @@
 use crate::calls::{Call, Told};
 use crate::dtd_case::{self, DtdCase};
 use crate::fail;
+use crate::format::Format;
 use crate::policy_case::{self, PolicyCase};
+use crate::roles_case::{self, RolesCase};
 use crate::stream::take;
 
 pub enum Case {
     Policy(PolicyCase),
     Dtd(DtdCase),
+    Roles(RolesCase),
 }
 
 impl Case {
@@ -16,6 +19,7 @@ impl Case {
         match take(stream, 1)[0] {
             policy_case::KIND => Case::Policy(PolicyCase::read(stream)),
             dtd_case::KIND => Case::Dtd(DtdCase::read(stream)),
+            roles_case::KIND => Case::Roles(RolesCase::read(stream)),
             kind => fail(&format!("there is no kind {}", kind)),
         }
     }
@@ -30,19 +34,28 @@ impl Case {
                 stream.push(dtd_case::KIND);
                 case.write(stream);
             }
+            Case::Roles(case) => {
+                stream.push(roles_case::KIND);
+                case.write(stream);
+            }
         }
     }
 
-    pub fn policy(&self) -> Option<&PolicyCase> {
+    /// Whether it has a table whose word 0 is that of this format.
+    pub fn has(&self, format: Format) -> bool {
         match self {
-            Case::Policy(case) => Some(case),
-            Case::Dtd(_) => None,
+            Case::Policy(case) => case.has(format),
+            Case::Dtd(_) => false,
+            Case::Roles(case) => case.has(format),
         }
     }
 
-    /// The case as a file for the program judge, where it has a policy.
+    /// The case as a file for the program judge, where it is a policy.
     pub fn file(&self) -> Option<Vec<u8>> {
-        self.policy().map(PolicyCase::file)
+        match self {
+            Case::Policy(case) => Some(case.file()),
+            Case::Dtd(_) | Case::Roles(_) => None,
+        }
     }
 
     /// The name of each call on such a case, and what it tells.
@@ -50,6 +63,7 @@ impl Case {
         match self {
             Case::Policy(case) => tell(&policy_case::CALLS, case),
             Case::Dtd(case) => tell(&dtd_case::CALLS, case),
+            Case::Roles(case) => tell(&roles_case::CALLS, case),
         }
     }
 }

@@ -1,12 +1,13 @@
-// How often each call gave each number and each condition, and how often each situation of requests 6, 8 and 9 came.
+// How often each call gave each number and each condition, and how often each situation of requests 5, 6, 8 and 9 came.
 
 use crate::answers::Answer;
-use crate::calls::{Call, POLICY, TABLE};
+use crate::calls::{Call, Told, POLICY, TABLE};
 use crate::cases::{read_cases, Case};
 use crate::dtd_case;
 use crate::format::Format;
 use crate::policy_case::{self, PolicyCase};
-use crate::situations::{Situations, OF_CHAINS, OF_COUNTS, OF_FORMAT_TWO};
+use crate::roles_case::{self, RolesCase};
+use crate::situations::{Situations, OF_CHAINS, OF_COUNTS, OF_FORMAT_TWO, OF_ROLES};
 use std::collections::BTreeMap;
 
 /// The numbers in the order of the checks.
@@ -90,47 +91,67 @@ pub fn table_of(rows: &[Row], numbers: &[&[usize]]) -> String {
     text
 }
 
-/// What came of all calls.
-pub struct Counts(Vec<Row>);
+/// What came of all calls, and of the roles within them.
+pub struct Counts {
+    rows: Vec<Row>,
+    total: usize,
+}
+
+/// The row of the roles.
+const A_ROLE: &str = "a role";
 
 impl Counts {
     pub fn new() -> Counts {
-        Counts(policy_case::CALLS.iter().map(Row::of).chain(dtd_case::CALLS.iter().map(Row::of)).collect())
+        let mut rows: Vec<Row> = policy_case::CALLS.iter().map(Row::of).collect();
+        rows.extend(dtd_case::CALLS.iter().map(Row::of));
+        rows.extend(roles_case::CALLS.iter().map(Row::of));
+        rows.push(Row::new(A_ROLE, &[roles_case::OF_ROLES], false));
+        Counts { rows, total: 0 }
     }
 
-    pub fn add(&mut self, name: &str, answer: &Answer) {
-        self.0.iter_mut().filter(|row| row.name == name).for_each(|row| row.add(answer));
+    pub fn add(&mut self, name: &str, told: &Told) {
+        self.total += 1;
+        self.add_to(name, &told.answer);
+        if name == roles_case::NAME {
+            for number in roles_case::numbers_told(told) {
+                self.add_to(A_ROLE, &Answer { number: number as usize, ..Answer::default() });
+            }
+        }
     }
 
-    /// How many answers were counted.
+    fn add_to(&mut self, name: &str, answer: &Answer) {
+        self.rows.iter_mut().filter(|row| row.name == name).for_each(|row| row.add(answer));
+    }
+
+    /// How many calls were counted.
     pub fn total(&self) -> usize {
-        self.0.iter().map(|row| row.numbers.total()).sum()
+        self.total
     }
 
     /// The fewest of those calls that were made.
     fn fewest(&self) -> usize {
-        let made = self.0.iter().filter(|row| row.numbers.total() > 0);
+        let made = self.rows.iter().filter(|row| row.numbers.total() > 0);
         made.map(Row::fewest).min().unwrap_or(0)
     }
 
     pub fn text(&self) -> String {
-        table_of(&self.0, NUMBERS) + &format!("fewest of what a call can give: {}\n", self.fewest())
+        table_of(&self.rows, NUMBERS) + &format!("fewest of what a call can give: {}\n", self.fewest())
     }
 }
 
 /// How often each situation of a request came.
-struct Found {
-    situations: Situations,
+struct Found<C: 'static> {
+    situations: Situations<C>,
     rows: Vec<(&'static str, usize)>,
 }
 
-impl Found {
-    fn new(situations: Situations) -> Found {
+impl<C> Found<C> {
+    fn new(situations: Situations<C>) -> Found<C> {
         let rows = (situations.names)().into_iter().map(|name| (name, 0)).collect();
         Found { situations, rows }
     }
 
-    fn add(&mut self, case: &PolicyCase) {
+    fn add(&mut self, case: &C) {
         let found = (self.situations.found)(case);
         self.rows.iter_mut().filter(|row| found.contains(&row.0)).for_each(|row| row.1 += 1);
     }
@@ -150,33 +171,45 @@ impl Found {
 pub struct Overview {
     all: Counts,
     of_two: Counts,
-    format_two: Found,
-    counts: Found,
-    chains: Found,
+    format_two: Found<PolicyCase>,
+    counts: Found<PolicyCase>,
+    chains: Found<PolicyCase>,
+    roles: Found<RolesCase>,
 }
 
 impl Overview {
     pub fn of(cases: impl Iterator<Item = Case>) -> Overview {
         let (all, of_two) = (Counts::new(), Counts::new());
         let [format_two, counts, chains] = [OF_FORMAT_TWO, OF_COUNTS, OF_CHAINS].map(Found::new);
-        let mut overview = Overview { all, of_two, format_two, counts, chains };
+        let roles = Found::new(OF_ROLES);
+        let mut overview = Overview { all, of_two, format_two, counts, chains, roles };
         cases.for_each(|case| overview.add(&case));
         overview
     }
 
     fn add(&mut self, case: &Case) {
-        let is_two = case.policy().map_or(false, |policy| policy.has(Format::Two));
         for (name, told) in case.tell() {
-            self.all.add(name, &told.answer);
-            if is_two {
-                self.of_two.add(name, &told.answer);
+            self.all.add(name, &told);
+            if case.has(Format::Two) {
+                self.of_two.add(name, &told);
             }
         }
-        if let Some(policy) = case.policy() {
-            self.format_two.add(policy);
-            self.counts.add(policy);
-            self.chains.add(policy);
+        match case {
+            Case::Policy(policy) => self.add_policy(policy),
+            Case::Dtd(_) => (),
+            Case::Roles(roles) => self.roles.add(roles),
         }
+    }
+
+    fn add_policy(&mut self, policy: &PolicyCase) {
+        self.format_two.add(policy);
+        self.counts.add(policy);
+        self.chains.add(policy);
+    }
+
+    /// The fewest of the numbers and conditions that the calls made can give.
+    pub fn fewest_of_answers(&self) -> usize {
+        self.all.fewest()
     }
 
     /// The fewest of what can come of format 2: a number, a condition, a situation.
@@ -194,10 +227,16 @@ impl Overview {
         self.chains.fewest()
     }
 
+    /// The fewest of the situations of request 5.
+    pub fn fewest_of_roles(&self) -> usize {
+        self.roles.fewest()
+    }
+
     fn text(&self) -> String {
-        let Overview { all, of_two, format_two, counts, chains } = self;
+        let Overview { all, of_two, format_two, counts, chains, roles } = self;
         let tables = format!("{}\nof format 2\n{}", all.text(), of_two.text());
-        format!("{}\n{}\n{}\n{}", tables, format_two.text(), counts.text(), chains.text())
+        let situations = [format_two.text(), counts.text(), chains.text(), roles.text()];
+        format!("{}\n{}", tables, situations.join("\n"))
     }
 }
 

@@ -7,6 +7,7 @@ mod damage;
 pub mod dtds;
 pub mod files;
 pub mod policies;
+pub mod roles;
 pub mod schemas;
 pub mod second_format;
 mod shapes;
@@ -78,9 +79,10 @@ fn policies(seed: u64, count: usize) -> impl Iterator<Item = PolicyCase> {
     (0..count).map(move |k| make_policy(&mut r, k))
 }
 
-/// So many policies of format 1, then so many DTD texts, and then so many policies of format 2 or of another word 0.
-pub fn cases(seed: u64, count: usize, dtds: usize, second_format: usize) -> impl Iterator<Item = Case> {
+/// So many policies of format 1, then so many DTD texts, then so many policies of format 2 or of another word 0, and then so many calls on
+/// roles.
+pub fn cases(seed: u64, [count, dtds, second_format, roles]: [usize; 4]) -> impl Iterator<Item = Case> {
     let of_two = second_format::cases(seed, second_format);
     let before = policies(seed, count).map(Case::Policy).chain(dtds::cases(seed, dtds).map(Case::Dtd));
-    before.chain(of_two.map(Case::Policy))
+    before.chain(of_two.map(Case::Policy)).chain(roles::cases(seed, roles).map(Case::Roles))
 }

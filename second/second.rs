@@ -17,6 +17,8 @@ mod judge;
 pub mod making;
 pub mod mending;
 pub mod policy_case;
+pub mod roles;
+pub mod roles_case;
 mod self_check;
 mod situations;
 mod stream;
@@ -36,8 +38,8 @@ use self_check::self_check;
 use std::io::{Read, Write};
 use table::{HEADER, MOST_ENTRIES, MOST_TYPES, RECORD};
 
-const USAGE: &str = "modes: judge | cases SEED COUNT DTDS SECOND_FORMAT | answers | count | files FOLDER \
-    | random SEED COUNT SECOND_FORMAT FILE... | reports | count files | dtd | count dtds SEED COUNT \
+const USAGE: &str = "modes: judge | cases SEED COUNT DTDS SECOND_FORMAT ROLES | answers | count \
+    | files FOLDER | random SEED COUNT SECOND_FORMAT FILE... | reports | count files | dtd | count dtds SEED COUNT \
     | documents SEED COUNT FOLDER | texts SEED COUNT FOLDER | self";
 
 fn fail(what: &str) -> ! {
@@ -117,10 +119,7 @@ pub fn main() {
     let arguments: Vec<&str> = arguments.iter().map(String::as_str).collect();
     let output = match arguments[..] {
         ["judge"] => judge(&input()).into_bytes(),
-        ["cases", seed, ref counts @ ..] => {
-            let [count, dtds, second_format] = sizes(counts);
-            write_cases(making::cases(number(seed), count, dtds, second_format))
-        }
+        ["cases", seed, ref counts @ ..] => write_cases(making::cases(number(seed), sizes(counts))),
         ["answers"] => answers(&input()).into_bytes(),
         ["count"] => count(&input()).into_bytes(),
         ["files", folder] => {

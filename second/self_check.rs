@@ -7,6 +7,7 @@ mod every;
 mod forbidden_below;
 mod literal;
 mod policies;
+mod roles;
 mod samples;
 mod second_format;
 mod tables;
@@ -23,6 +24,7 @@ use dtds::self_dtds;
 use every::self_every;
 use forbidden_below::self_forbidden_below;
 use policies::{self_policy, self_renumbered, small_policy, unset};
+use roles::self_roles;
 use samples::self_samples;
 use second_format::self_second_format;
 use tables::{self_descent, self_hierarchies, self_named_tables, self_numbering, small_schema};
@@ -98,6 +100,7 @@ pub fn self_check(seed: u64, count: usize) -> String {
         self_format(seed, Format::Two, count),
         self_second_format(seed),
         self_counts(seed),
+        self_roles(seed, count),
         self_dtds(seed, count),
     ]
     .concat()

@@ -1,4 +1,4 @@
-// What requests 6, 8 and 9 bring besides numbers and conditions: the situations that a case can be in, by name.
+// What requests 5, 6, 8 and 9 bring besides numbers and conditions: the situations that a case can be in, by name.
 
 mod breaches;
 mod chains;
@@ -7,37 +7,44 @@ mod counts;
 mod mends;
 mod policy;
 mod proposals;
+pub mod roles;
+mod show;
 mod tables;
 
 use crate::policy_case::PolicyCase;
+use crate::roles_case::RolesCase;
 use policy::Policy;
 
 /// A situation of a policy that is not refused: its name, and whether a policy is in it.
 type Situation = (&'static str, fn(&Policy) -> bool);
 
-/// The situations that a request brings: of what they are, their names, and those that a case is in.
-pub struct Situations {
+/// The situations that a request brings to cases of a kind: of what they are, their names, and those that a case is in.
+pub struct Situations<C: 'static> {
     pub of: &'static str,
     pub names: fn() -> Vec<&'static str>,
-    pub found: fn(&PolicyCase) -> Vec<&'static str>,
+    pub found: fn(&C) -> Vec<&'static str>,
 }
 
+/// Request 5: of calls on all roles.
+pub const OF_ROLES: Situations<RolesCase> =
+    Situations { of: "roles", names: roles::names, found: roles::found };
+
 /// Request 6: in both formats.
-pub const OF_CHAINS: Situations = Situations {
+pub const OF_CHAINS: Situations<PolicyCase> = Situations {
     of: "the chain",
     names: || names_of(chains::SITUATIONS),
     found: |case| Policy::of(case).map_or(Vec::new(), |policy| found_in(&policy, chains::SITUATIONS)),
 };
 
 /// Request 8: in both formats.
-pub const OF_COUNTS: Situations = Situations {
+pub const OF_COUNTS: Situations<PolicyCase> = Situations {
     of: "the count",
     names: || names_of(counts::SITUATIONS),
     found: |case| Policy::of(case).map_or(Vec::new(), |policy| found_in(&policy, counts::SITUATIONS)),
 };
 
 /// Request 9: first those that a table brings, then those of a policy of format 2.
-pub const OF_FORMAT_TWO: Situations = Situations {
+pub const OF_FORMAT_TWO: Situations<PolicyCase> = Situations {
     of: "format 2",
     names: || [tables::SITUATIONS.iter().map(|situation| situation.0).collect(), of_policies()].concat(),
     found: |case| [tables_in(case), policies_in(case)].concat(),

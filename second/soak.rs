@@ -1,5 +1,5 @@
 // Holds the exported library to the second program on fresh cases: each call, all of its answer, and every lent run afterwards.
-// second/soak builds it and runs it with SEED, COUNT, DTDS, SECOND_FORMAT and the folder where a case that differs is kept.
+// second/soak builds it and runs it with SEED, COUNT, DTDS, SECOND_FORMAT, ROLES and the folder where a case that differs is kept.
 
 #[path = "../bindings/rust/src/border.rs"]
 mod border;
@@ -12,6 +12,7 @@ use second::counting::Counts;
 use second::dtd_case::{self, DtdCase};
 use second::making;
 use second::policy_case::{self, PolicyCase};
+use second::roles_case::{self, RolesCase};
 use std::hint::black_box;
 
 fn outcome_of(told: border::Outcome) -> Outcome {
@@ -39,6 +40,11 @@ const POLICY: [fn(&PolicyCase) -> Told; policy_case::CALLS.len()] = [
 const DTD: [fn(&DtdCase) -> Told; dtd_case::CALLS.len()] =
     [|case| case.writing(|text, out| outcome_of(border::read_dtd(text, out)))];
 
+/// The same on cases of kind 2.
+const ROLES: [fn(&RolesCase) -> Told; roles_case::CALLS.len()] = [|case| {
+    case.writing(|words, marks, numbers, out| outcome_of(border::complete_roles(words, marks, numbers, out)))
+}];
+
 /// Makes each call on a case by both and counts the answers, up to the first difference.
 fn compare<C: Clone + PartialEq>(
     calls: &[Call<C>],
@@ -55,7 +61,7 @@ fn compare<C: Clone + PartialEq>(
         if *black_box(&mut lent) != *case {
             return Err(format!("{}: the library changed a run that it only reads", call.name));
         }
-        counts.add(call.name, &second.answer);
+        counts.add(call.name, &second);
     }
     Ok(())
 }
@@ -64,6 +70,7 @@ fn compare_case(case: &Case, counts: &mut Counts) -> Result<(), String> {
     match case {
         Case::Policy(case) => compare(&policy_case::CALLS, &POLICY, case, counts),
         Case::Dtd(case) => compare(&dtd_case::CALLS, &DTD, case, counts),
+        Case::Roles(case) => compare(&roles_case::CALLS, &ROLES, case, counts),
     }
 }
 
@@ -73,7 +80,7 @@ fn fail(what: &str) -> ! {
 }
 
 fn number(text: &str) -> u64 {
-    text.parse().unwrap_or_else(|_| fail("SEED, COUNT, DTDS and SECOND_FORMAT are numbers"))
+    text.parse().unwrap_or_else(|_| fail("SEED, COUNT, DTDS, SECOND_FORMAT and ROLES are numbers"))
 }
 
 /// Keeps a case as a stream, and says where.
@@ -84,17 +91,16 @@ fn keep(case: Case, path: &str) -> String {
     }
 }
 
-fn soak(seed: u64, counts: [usize; 3], folder: &str) {
-    let [count, dtds, second_format] = counts;
+fn soak(seed: u64, sizes: [usize; 4], folder: &str) {
     let mut counts = Counts::new();
-    for (k, case) in making::cases(seed, count, dtds, second_format).enumerate() {
+    for (k, case) in making::cases(seed, sizes).enumerate() {
         if let Err(difference) = compare_case(&case, &mut counts) {
             let kept = keep(case, &format!("{}/differs.{}.{}", folder, seed, k));
             let alike = counts.total();
             fail(&format!("{alike} calls alike, then a difference: case {k} of seed {seed}, {kept}\n{difference}"));
         }
     }
-    let (cases, calls) = (count + dtds + second_format, counts.total());
+    let (cases, calls) = (sizes.iter().sum::<usize>(), counts.total());
     print!("{} cases of seed {}, {} calls, no difference\n{}", cases, seed, calls, counts.text());
 }
 
@@ -102,10 +108,10 @@ fn main() {
     let arguments: Vec<String> = std::env::args().skip(1).collect();
     let arguments: Vec<&str> = arguments.iter().map(String::as_str).collect();
     match arguments[..] {
-        [seed, count, dtds, second_format, folder] => {
-            let counts = [count, dtds, second_format].map(|text| number(text) as usize);
-            soak(number(seed), counts, folder)
+        [seed, count, dtds, second_format, roles, folder] => {
+            let sizes = [count, dtds, second_format, roles].map(|text| number(text) as usize);
+            soak(number(seed), sizes, folder)
         }
-        _ => fail("soak SEED COUNT DTDS SECOND_FORMAT FOLDER"),
+        _ => fail("soak SEED COUNT DTDS SECOND_FORMAT ROLES FOLDER"),
     }
 }

@@ -121,6 +121,22 @@ static void put_run(const uint8_t *run, size_t length)
         put_mark(run[k]);
 }
 
+static void put_word(uint16_t word)
+{
+    printf("%02x%02x", word % 256, word / 256);
+}
+
+/* The number of a role; as lent it may be any word. */
+static void put_role(uint16_t number)
+{
+    switch (number) {
+    case FINNEDSCARF_DONE: put_word(0); break;
+    case FINNEDSCARF_MARK: put_word(11); break;
+    case FINNEDSCARF_BREACH: put_word(16); break;
+    default: put_word(number);
+    }
+}
+
 /* The line of a call that only reads. */
 static void put_line(size_t number, const char *call, finnedscarf_outcome o)
 {
@@ -166,7 +182,25 @@ static void run_dtd(size_t number)
     put_outcome(number, "dtd", finnedscarf_read_dtd(text, t, out, n));
     putchar(' ');
     for (size_t k = 0; k < n; k++)
-        printf("%02x%02x", out[k] % 256, out[k] / 256);
+        put_word(out[k]);
+    putchar('\n');
+}
+
+/* The call on a case of kind 2. The numbers are printed as bytes, the low one of each word first. */
+static void run_roles(size_t number)
+{
+    static uint16_t words[MOST], numbers[MOST];
+    static uint8_t marks[MOST], out[MOST];
+    size_t w = read_words(words);
+    size_t m = read_bytes(marks);
+    size_t r = read_words(numbers);
+    size_t n = read_bytes(out);
+
+    put_outcome(number, "roles", finnedscarf_complete_roles(words, w, marks, m, numbers, r, out, n));
+    putchar(' ');
+    for (size_t k = 0; k < r; k++)
+        put_role(numbers[k]);
+    put_run(out, n);
     putchar('\n');
 }
 
@@ -176,6 +210,7 @@ int main(void)
         switch (next_byte()) {
         case 0: run_policy(number); break;
         case 1: run_dtd(number); break;
+        case 2: run_roles(number); break;
         default: exit(2);
         }
     }

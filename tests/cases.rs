@@ -1,7 +1,8 @@
 //! Makes the calls on a stream of cases through the safe wrapper and prints a line for each (second/README.md has the form of both).
 //! Conditions and marks are printed by the wrapper's names for them, so that each name is held to its value.
 
-use finnedscarf::{check_table, complete, judge_mend, judge_policy, mend, read_dtd, Breach, Condition, Refusal, ALLOWED, FORBIDDEN, UNSET};
+use finnedscarf::{check_table, complete, complete_roles, judge_mend, judge_policy, mend, read_dtd};
+use finnedscarf::{Breach, Condition, Refusal, RoleRefusal, Roles, ALLOWED, FORBIDDEN, UNSET};
 use std::io::{self, BufWriter, Read, Write};
 
 struct Stream(Vec<u8>, usize);
@@ -77,6 +78,11 @@ fn run_text(run: &[u8]) -> String {
     run.iter().map(mark).collect()
 }
 
+/// Words as bytes, the low one of each first.
+fn words_text(run: &[u16]) -> String {
+    run.iter().flat_map(|word| word.to_le_bytes()).map(|byte| format!("{byte:02x}")).collect()
+}
+
 /// The line of a call that only reads, behind the case's number.
 fn line(call: &str, answer: Result<Done, Refusal>) -> String {
     format!("{call} {}", answer_text(answer))
@@ -112,8 +118,33 @@ fn dtd_lines(stream: &mut Stream) -> Vec<String> {
     let text = stream.bytes();
     let mut out = stream.words();
     let answer = read_dtd(&text, &mut out).map(|place| Done { place, ..Done::default() });
-    let run: String = out.iter().flat_map(|word| word.to_le_bytes()).map(|byte| format!("{byte:02x}")).collect();
-    vec![line("dtd", answer) + " " + &run]
+    vec![line("dtd", answer) + " " + &words_text(&out)]
+}
+
+/// What is told of each role, from the first to the last; from the last to the first it must be the same.
+fn roles_told(roles: Roles) -> Vec<Result<Vec<u8>, usize>> {
+    let told = |role: Result<&[u8], RoleRefusal>| role.map(<[u8]>::to_vec).map_err(|refusal| refusal.number);
+    let all: Vec<_> = roles.clone().map(told).collect();
+    assert_eq!(roles.len(), all.len());
+    assert!(roles.rev().map(told).eq(all.iter().rev().cloned()));
+    all
+}
+
+/// The call on a case of kind 2. Of a call that is done, what is told of each role is put over both runs as lent, which must come to the same.
+fn roles_lines(stream: &mut Stream) -> Vec<String> {
+    let words = stream.words();
+    let marks = stream.bytes();
+    let (mut numbers, mut out) = (stream.words(), stream.bytes());
+    let (mut numbers_told, mut out_told) = (numbers.clone(), out.clone());
+    let answer = complete_roles(&words, &marks, &mut numbers, &mut out).map(roles_told);
+    for (r, role) in answer.iter().flatten().enumerate() {
+        numbers_told[r] = role.as_ref().map_or_else(|&number| number as u16, |_| 0);
+        if let Ok(completed) = role {
+            out_told[r * completed.len()..][..completed.len()].copy_from_slice(completed);
+        }
+    }
+    assert_eq!((&numbers_told, &out_told), (&numbers, &out));
+    vec![format!("{} {} {}", line("roles", answer.map(|_| Done::default())), words_text(&numbers), run_text(&out))]
 }
 
 fn main() -> io::Result<()> {
@@ -125,6 +156,7 @@ fn main() -> io::Result<()> {
         let lines = match stream.byte() {
             0 => policy_lines(&mut stream),
             1 => dtd_lines(&mut stream),
+            2 => roles_lines(&mut stream),
             kind => panic!("there is no kind {kind}"),
         };
         for line in lines {

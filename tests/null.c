@@ -45,6 +45,10 @@ BORDER(finnedscarf_judge_policy, (const uint16_t *words, size_t words_length, co
 BORDER(finnedscarf_complete,
        (const uint16_t *words, size_t words_length, const uint8_t *marks, size_t marks_length, uint8_t *out, size_t out_length),
        (words, words_length, marks, marks_length, out, out_length), words && marks && out)
+BORDER(finnedscarf_complete_roles,
+       (const uint16_t *words, size_t words_length, const uint8_t *marks, size_t marks_length, uint16_t *numbers, size_t numbers_length,
+        uint8_t *out, size_t out_length),
+       (words, words_length, marks, marks_length, numbers, numbers_length, out, out_length), words && marks && numbers && out)
 BORDER(finnedscarf_mend,
        (const uint16_t *words, size_t words_length, const uint8_t *marks, size_t marks_length, uint8_t *out, size_t out_length),
        (words, words_length, marks, marks_length, out, out_length), words && marks && out)
@@ -60,6 +64,8 @@ static finnedscarf_outcome (*const check_table)(const uint16_t *, size_t) = finn
 static finnedscarf_outcome (*const read_dtd)(const uint8_t *, size_t, uint16_t *, size_t) = &finnedscarf_read_dtd;
 static finnedscarf_outcome (*const judge_policy)(const uint16_t *, size_t, const uint8_t *, size_t) = &finnedscarf_judge_policy;
 static writes *const complete = finnedscarf_complete;
+static finnedscarf_outcome (*const complete_roles)(const uint16_t *, size_t, const uint8_t *, size_t, uint16_t *, size_t, uint8_t *, size_t) =
+    &finnedscarf_complete_roles;
 static writes *const mend = &finnedscarf_mend;
 static finnedscarf_outcome (*const judge_mend)(const uint16_t *, size_t, const uint8_t *, size_t, const uint8_t *, size_t) =
     finnedscarf_judge_mend;
@@ -123,6 +129,24 @@ static int has_breach(finnedscarf_outcome o)
     return o.condition || o.type || o.i || o.j || o.privilege || o.forbidden || chained;
 }
 
+/* The runs with some of them taken from `none`, which are all empty. */
+static struct runs emptied(struct runs r, struct runs none, int words, int marks, int third)
+{
+    if (words) {
+        r.words = none.words;
+        r.words_length = 0;
+    }
+    if (marks) {
+        r.marks = none.marks;
+        r.marks_length = 0;
+    }
+    if (third) {
+        r.third = none.third;
+        r.third_length = 0;
+    }
+    return r;
+}
+
 /* Makes a call in which some runs are empty: those of `none`, which are all empty. */
 static void try_call(int call, int address, size_t v, int empty, struct runs none)
 {
@@ -133,18 +157,7 @@ static void try_call(int call, int address, size_t v, int empty, struct runs non
         third[0] = first = FINNEDSCARF_FORBIDDEN;
         r.third_length = v;
     }
-    if (empty & WORDS) {
-        r.words = none.words;
-        r.words_length = 0;
-    }
-    if (empty & MARKS) {
-        r.marks = none.marks;
-        r.marks_length = 0;
-    }
-    if (empty & THIRD) {
-        r.third = none.third;
-        r.third_length = 0;
-    }
+    r = emptied(r, none, empty & WORDS, empty & MARKS, empty & THIRD);
     finnedscarf_outcome o = address ? by_address(call, r) : by_name(call, r);
 
     size_t number = calls[call].number[v][empty];
@@ -188,13 +201,47 @@ static void try_read(int address, size_t v, int empty, const uint8_t *no_text, u
     }
 }
 
-static size_t try_all(struct runs none, uint16_t *no_table)
+/* The runs of completing roles that are empty, as a sum, and the number of its answer by V and by that sum; there is one role or none. */
+enum { NUMBERS = 4, OUT = 8 };
+static const size_t roles_number[2][16] = {{0, 1, 0, 1, 0, 1, 0, 1, 0, 1, 0, 1, 0, 1, 0, 1}, {0, 1, 10, 1, 10, 1, 0, 1, 12, 1, 10, 1, 10, 1, 0, 1}};
+
+/* Completes a role, or none, in a call in which some runs are empty: those that are given, which are all empty. */
+static void try_roles(int address, size_t v, int empty, struct runs none, uint16_t *no_numbers)
+{
+    uint16_t numbers[2] = {9, 9};
+    uint8_t out[2] = {9, 9};
+    struct runs r = {tables[v], unset, out, 11, v, 2};
+    uint16_t *lent = empty & NUMBERS ? no_numbers : numbers;
+    size_t roles = empty & NUMBERS ? 0 : 1;
+    r = emptied(r, none, empty & WORDS, empty & MARKS, empty & OUT);
+    finnedscarf_outcome o =
+        address ? complete_roles(r.words, r.words_length, r.marks, r.marks_length, lent, roles, r.third, r.third_length)
+                : finnedscarf_complete_roles(r.words, r.words_length, r.marks, r.marks_length, lent, roles, r.third, r.third_length);
+
+    size_t number = roles_number[v][empty];
+    int done = number == 0 && roles == 1;
+    int first_number = done ? FINNEDSCARF_DONE : 9, first = done && v == 1 ? FINNEDSCARF_FORBIDDEN : 9;
+    int right = numbers[0] == first_number && numbers[1] == 9 && out[0] == first && out[1] == 9;
+    if (o.number != number || o.place || o.count || has_breach(o) || !right) {
+        printf("tests/null: complete_roles by %s, V %zu, empty runs %d: number %zu, place %zu, numbers %d %d, result %d %d, where %zu, 0, "
+               "%d 9, %d 9 and no breach is right\n",
+               address ? "address" : "name", v, empty, o.number, o.place, numbers[0], numbers[1], out[0], out[1], number, first_number, first);
+        exit(1);
+    }
+}
+
+/* The table that is read, and the numbers of the roles, are empty runs of words that a call may write. */
+static size_t try_all(struct runs none, uint16_t *no_words)
 {
     size_t tried = 0;
     for (int address = 0; address < 2; address++)
         for (size_t v = 0; v < 2; v++)
             for (int empty = 0; empty < 4; empty++, tried++)
-                try_read(address, v, empty, none.marks, no_table);
+                try_read(address, v, empty, none.marks, no_words);
+    for (int address = 0; address < 2; address++)
+        for (size_t v = 0; v < 2; v++)
+            for (int empty = 0; empty < 16; empty++, tried++)
+                try_roles(address, v, empty, none, no_words);
     for (int call = 0; call < CALLS; call++)
         for (int address = 0; address < 2; address++)
             for (size_t v = 0; v < 2; v++)
@@ -208,10 +255,10 @@ int main(void)
     struct runs null = {NULL, NULL, NULL, 0, 0, 0};
     size_t tried = try_all(null, NULL);
 #ifdef __cplusplus
-    std::vector<uint16_t> words, table;
+    std::vector<uint16_t> words, written;
     std::vector<uint8_t> marks, third;
     struct runs vectors = {words.data(), marks.data(), third.data(), 0, 0, 0};
-    tried += try_all(vectors, table.data());
+    tried += try_all(vectors, written.data());
 #endif
     if (passed_on != tried) {
         printf("tests/null: %zu calls made, and %zu seen on their way to the library\n", tried, passed_on);

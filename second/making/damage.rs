@@ -184,16 +184,16 @@ fn unsound_words(r: &mut Random, schema: &Schema) -> Vec<u16> {
     words
 }
 
-fn spoil_table(r: &mut Random, schema: &Schema, case: &mut PolicyCase) {
+pub fn spoil_table(r: &mut Random, schema: &Schema, words: &mut Vec<u16>) {
     if r.below(5) < 2 {
-        case.words = unsound_words(r, schema);
+        *words = unsound_words(r, schema);
         return;
     }
     for _ in 0..r.pick(&[0, 1, 1, 1, 2, 3]) {
-        bend(r, &schema.types, &mut case.words);
+        bend(r, &schema.types, words);
     }
     if r.one_in(3) {
-        case.words = resized(r, schema.format, case.words.clone());
+        *words = resized(r, schema.format, words.clone());
     }
 }
 
@@ -224,7 +224,7 @@ pub fn spoil(r: &mut Random, schema: &Schema, case: &mut PolicyCase) {
     }
     let (table, marks, proposed) = (r.below(20) < 8, r.one_in(10), r.one_in(8));
     if table {
-        spoil_table(r, schema, case);
+        spoil_table(r, schema, &mut case.words);
     }
     if marks {
         spoil_marks(r, &mut case.marks);

@@ -59,7 +59,7 @@ fn damage(r: &mut Random, file: &mut Vec<u8>) {
 }
 
 /// The same types without a privilege.
-fn bare(mut types: Vec<Type>) -> Vec<Type> {
+pub fn bare(mut types: Vec<Type>) -> Vec<Type> {
     for it in types.iter_mut() {
         it.kind = if it.children.is_empty() { EMPTY } else { SEQUENCE };
     }

@@ -17,10 +17,10 @@ pub const SAMPLE: [u16; 39] = [
 ];
 
 /// Marks, the verdict's breach, the completion if there is one, count and mend.
-type Sample = (&'static str, ByHand, Option<&'static str>, usize, &'static str);
+pub type Sample = (&'static str, ByHand, Option<&'static str>, usize, &'static str);
 
 /// S1 to S9.
-const SAMPLES: [Sample; 9] = [
+pub const SAMPLES: [Sample; 9] = [
     ("00000000000", CLEAN, Some("22222222222"), 0, "00000000000"),
     ("11020000000", ([1, 0, 0, 0, 3, 1], &[]), None, 1, "12020000000"),
     ("11000000000", CLEAN, Some("11111111111"), 0, "11000000000"),
@@ -58,7 +58,7 @@ const ALPHABETICAL_S5_LINES: &str =
     "table 0 11\nverdict 2 7 0 2 6 0 1 2\ncomplete none\nmended 1 00000220100\n";
 
 /// Word 0 and V of both numberings in format 2; the other words are the same.
-fn of_two(words: &[u16; 39]) -> [u16; 39] {
+pub fn of_two(words: &[u16; 39]) -> [u16; 39] {
     let mut words = *words;
     words[0] = 2;
     words[7] = 15;
@@ -67,7 +67,7 @@ fn of_two(words: &[u16; 39]) -> [u16; 39] {
 
 /// Of format 2, worked out by hand. Privileges: 0 insert layer, 1 delete layer, 2 exchange layer, 3 name, 4 range, 5 to 13 the
 /// replacements (0,0) (0,1) (0,2) (1,0) (1,1) (1,2) (2,0) (2,1) (2,2), 14 text of final.
-const SAMPLES_OF_TWO: [Sample; 18] = [
+pub const SAMPLES_OF_TWO: [Sample; 18] = [
     ("000000000000000", CLEAN, Some("222222222222222"), 0, "000000000000000"),
     // insert and delete: they force the exchange and what is below
     ("110000000000000", CLEAN, Some("111111111111111"), 0, "110000000000000"),

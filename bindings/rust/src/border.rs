@@ -19,7 +19,7 @@ pub struct Outcome {
 }
 
 // SAFETY of each call: a pointer, which in a slice is never NULL, and its length, from one slice that lives through the call; the borrows keep
-// `out` apart from the rest.
+// `out` and `numbers` apart from the rest.
 
 pub fn check_table(words: &[u16]) -> Outcome {
     unsafe { finnedscarf_check_table(words.as_ptr(), words.len()) }
@@ -35,6 +35,21 @@ pub fn judge_policy(words: &[u16], marks: &[u8]) -> Outcome {
 
 pub fn complete(words: &[u16], marks: &[u8], out: &mut [u8]) -> Outcome {
     unsafe { finnedscarf_complete(words.as_ptr(), words.len(), marks.as_ptr(), marks.len(), out.as_mut_ptr(), out.len()) }
+}
+
+pub fn complete_roles(words: &[u16], marks: &[u8], numbers: &mut [u16], out: &mut [u8]) -> Outcome {
+    unsafe {
+        finnedscarf_complete_roles(
+            words.as_ptr(),
+            words.len(),
+            marks.as_ptr(),
+            marks.len(),
+            numbers.as_mut_ptr(),
+            numbers.len(),
+            out.as_mut_ptr(),
+            out.len(),
+        )
+    }
 }
 
 pub fn mend(words: &[u16], marks: &[u8], out: &mut [u8]) -> Outcome {
@@ -57,6 +72,16 @@ extern "C" {
         words_length: usize,
         marks: *const u8,
         marks_length: usize,
+        out: *mut u8,
+        out_length: usize,
+    ) -> Outcome;
+    fn finnedscarf_complete_roles(
+        words: *const u16,
+        words_length: usize,
+        marks: *const u8,
+        marks_length: usize,
+        numbers: *mut u16,
+        numbers_length: usize,
         out: *mut u8,
         out_length: usize,
     ) -> Outcome;

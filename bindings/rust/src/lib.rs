@@ -1,11 +1,11 @@
 //! Safe calls of Finnedscarf, the proved policy checker: checks a schema table, reads one from DTD text, judges a policy of edits on it,
-//! completes and mends the policy, and judges a mend that somebody proposes.
+//! completes the policy, or those of all roles of a show at once, mends it, and judges a mend that somebody proposes.
 //!
 //! `words` is the schema table and `marks` the policy, one byte for each of its V privileges: [`UNSET`], [`ALLOWED`] or [`FORBIDDEN`].
 //! `include/finnedscarf.h` has the layout of the table, the table of a DTD text and the numbers of the privileges. Word 0 of a table is its
 //! format, 1 or 2; in format 2 there are privileges to replace an element by another of its own kind too. Every call takes every input: what
-//! is no table, no DTD text or no policy is a [`Refusal`], and a refused call leaves its `out` as it was. No call allocates, and none keeps
-//! anything.
+//! is no table, no DTD text or no policy is a [`Refusal`], and a refused call leaves everything that it was lent as it was. No call allocates,
+//! and none keeps anything.
 //!
 //! ```
 //! use finnedscarf::{judge_policy, ALLOWED, FORBIDDEN, UNSET};
@@ -33,8 +33,10 @@
 //! variable `FINNEDSCARF_LIB` names; for rustc it is `-L native=target/staticlib` where this crate is compiled.
 
 mod border;
+mod roles;
 
 use border::Outcome;
+pub use roles::{RoleRefusal, Roles};
 use std::error::Error;
 use std::fmt;
 use std::ops::Deref;
@@ -171,9 +173,12 @@ impl fmt::Display for Refusal {
             7 => write!(f, "the same child twice at parent {place}"),
             8 => write!(f, "type {place} is not reached from the root"),
             9 => write!(f, "over 4,096 privileges, or word 7 is not their number"),
-            10 => write!(f, "not one mark for each privilege"),
+            10 => write!(f, "not one mark for each privilege (with all roles at once: of each role)"),
             11 => write!(f, "a mark above 2 at privilege {place}"),
-            12 => write!(f, "result shorter than the number of privileges, or than the table that is read"),
+            12 => write!(
+                f,
+                "result shorter than the number of privileges (with all roles at once: for each role), or than the table that is read"
+            ),
             13 => write!(f, "not one proposed mark for each privilege"),
             14 => write!(f, "a proposed mark above 2 at privilege {place}"),
             15 => write!(f, "a change other than from 1 to 2 at privilege {place}"),
@@ -229,6 +234,32 @@ pub fn judge_policy(words: &[u16], marks: &[u8]) -> Result<Option<Breach>, Refus
 /// rest is kept. Refused with 1 to 12 and 19, and with 16 if there is none.
 pub fn complete(words: &[u16], marks: &[u8], out: &mut [u8]) -> Result<(), Refusal> {
     border::complete(words, marks, out).done().map(|_| ())
+}
+
+/// Completes the policies of all roles of a show at once, as many as `numbers` has words; their marks stand one after another in `marks`, V
+/// for each. Writes the number of each role into `numbers`, and its completed marks into its own V bytes of `out`, whose rest is kept, and
+/// gives the roles in their order: the completed marks, or a [`RoleRefusal`] with 11 or 16, and then the role's bytes of `out` are kept. Each
+/// role is what [`complete`] gives on its own marks. The whole call is refused with 1 to 9 and 19 for the table, with 10 if `marks` is not V
+/// bytes for each role, and with 12 if `out` is shorter than that.
+///
+/// ```
+/// use finnedscarf::{complete_roles, RoleRefusal, ALLOWED, FORBIDDEN, UNSET};
+///
+/// // a star whose child is a text; its privileges are insert, delete, and change the text
+/// let words = [1, 15, 2, 0, 8, 1, 14, 3, 4, 1, 0, 1, 0, 1, 1];
+/// let marks = [[ALLOWED, ALLOWED, UNSET], [ALLOWED, ALLOWED, FORBIDDEN], [UNSET, UNSET, ALLOWED]].concat();
+/// let (mut numbers, mut out) = ([0; 3], [0; 9]);
+/// let mut roles = complete_roles(&words, &marks, &mut numbers, &mut out)?;
+/// assert_eq!(roles.next(), Some(Ok(&[ALLOWED, ALLOWED, ALLOWED][..])));
+/// assert_eq!(roles.next(), Some(Err(RoleRefusal { number: 16 })));
+/// assert_eq!(roles.next(), Some(Ok(&[FORBIDDEN, FORBIDDEN, ALLOWED][..])));
+/// assert_eq!(roles.next(), None);
+/// assert_eq!(numbers, [0, 16, 0]);
+/// # Ok::<(), finnedscarf::Refusal>(())
+/// ```
+pub fn complete_roles<'a>(words: &[u16], marks: &[u8], numbers: &'a mut [u16], out: &'a mut [u8]) -> Result<Roles<'a>, Refusal> {
+    border::complete_roles(words, marks, numbers, out).done()?;
+    Ok(Roles::new(words[7].into(), numbers, &out[..marks.len()]))
 }
 
 /// Mends a policy by the rule that the header states: writes a clean one into the first V bytes of `out`, whose rest is kept, and gives the

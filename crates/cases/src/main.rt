@@ -5,6 +5,7 @@ use completion::complete;
 use dtd::read_dtd;
 use mending::mend;
 use proposing::judge_mend;
+use roles::complete_roles;
 use stream::next_kind;
 use stream::next_length;
 use stream::read_bytes;
@@ -170,6 +171,33 @@ fn run_dtd(case: usize) {
     put_dtd(case, &text[0..n], &mut out[0..w]);
 }
 
+// The call on a case of kind 2.
+fn put_roles(case: usize, words: &[u16], marks: &[u8], numbers: &mut [u16], out: &mut [u8]) {
+    put_answer(case, b" roles", complete_roles(words, marks, numbers, out));
+    put_words(numbers);
+    put_run(out);
+    io::write_all(1, b"\n");
+}
+
+// Kind 2: a table, the marks of all roles, their numbers and a result as lent.
+fn run_roles(case: usize) {
+    let mut words = [0u16; 4096];
+    let w = read_words(next_length(), &mut words);
+    let mut marks = [0u8; 16384];
+    let m = read_bytes(next_length(), &mut marks);
+    let mut numbers = [0u16; 2048];
+    let k = read_words(next_length(), &mut numbers);
+    let mut out = [0u8; 16384];
+    let n = read_bytes(next_length(), &mut out);
+    put_roles(
+        case,
+        &words[0..w],
+        &marks[0..m],
+        &mut numbers[0..k],
+        &mut out[0..n],
+    );
+}
+
 // Makes the calls on the next case, if there is one of a known kind.
 fn run_case(case: usize) -> bool {
     let found = next_kind();
@@ -179,6 +207,7 @@ fn run_case(case: usize) -> bool {
     match kind {
         0 => run_policy(case),
         1 => run_dtd(case),
+        2 => run_roles(case),
         _ => return false,
     }
     true

@@ -156,18 +156,18 @@ module _ {ws : List ℕ} {S : ℕ → Type 0} {x : ℕ} {square : List ℕ} (shu
       go p (i, j, r, e) = rw e (decision-as (grant r) (lead r) (rw (replace-in h i j) at (w .all i j (replaceable-in h r))))
 
 -- at a type that is visited
-module _ {ws marks kids opened out : List ℕ} {x first : ℕ} (v : Visited ws marks x first kids opened out) where
-  visit-count : length kids ≡ countOf ws x
-  visit-count = ap length (v .kids-are) ∙ facts (v .policy .accepted) .children-here x (v .type)
+module _ {ws marks opened out : List ℕ} {x first : ℕ} (v : Visited ws marks x first opened out) where
+  visit-count : {kids : List ℕ} → kids ≡ childrenAt ws x → length kids ≡ countOf ws x
+  visit-count e = ap length e ∙ facts (v .policy .accepted) .children-here x (v .type)
 
   -- its children are few, and their numbers are indices of the flags
-  pub visit-few : length kids ≤ 16
-  visit-few = omega (arith, visit-count, facts (v .policy .accepted) .children-few x (v .type))
+  pub visit-few : {kids : List ℕ} → kids ≡ childrenAt ws x → length kids ≤ 16
+  visit-few e = omega (arith, visit-count e, facts (v .policy .accepted) .children-few x (v .type))
 
-  pub visit-small : (i : ℕ) → i < length kids → getD kids i 0 < 256
-  visit-small i l =
+  pub visit-small : {kids : List ℕ} → kids ≡ childrenAt ws x → (i : ℕ) → i < length kids → getD kids i 0 < 256
+  visit-small e i l =
       let f = facts (v .policy .accepted) in
-      rw (v .kids-are) (omega (arith, f .few, f .child-inside x i (v .type) (rw (← visit-count) l)))
+      rw e (omega (arith, f .few, f .child-inside x i (v .type) (rw (← visit-count e) l)))
 
   -- its own marks end within the result
   pub visit-end : {n : ℕ} → n ≡ privilegesAt ws x → first + n ≤ privileges ws

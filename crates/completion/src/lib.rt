@@ -2,11 +2,12 @@
 ghost use Rattle.completion.specs.Answers.{CompleteAnswer};
 
 mod open;
-mod pass;
+pub mod pass;
 mod write;
 
 use pass::complete_all;
 use policy::marks::check_policy;
+use table::privilege::first_privileges;
 use verdict::Answer;
 use verdict::Condition;
 use verdict::breaches::first_breach;
@@ -27,7 +28,9 @@ pub fn complete(words: &[u16], marks: &[u8], out: &mut [u8]) -> Answer
     let breach = first_breach(words, marks, &order);
     let condition = breach.condition;
     if let Condition::None = condition {
-        complete_all(words, marks, &order, out);
+        let mut firsts = [0u16; 256];
+        first_privileges(words, &mut firsts);
+        complete_all(words, marks, &order, &firsts, out);
         return refused(0, 0);
     }
     Answer {

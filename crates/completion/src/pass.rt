@@ -6,7 +6,7 @@ ghost use Rattle.table.specs.Privilege.{privileges};
 ghost use Rattle.table.specs.steps.Order.{BottomUp};
 ghost use Rattle.policy.specs.Marks.{Allowed, Policy};
 ghost use Rattle.completion.specs.steps.Opens.{Opened};
-ghost use Rattle.completion.specs.steps.Passes.{Visited, Done, Filled};
+ghost use Rattle.completion.specs.steps.Passes.{Visited, Done, HasFirsts, Filled};
 use super::open::open_all;
 use super::open::open_cycles;
 use super::write::write_exchange;
@@ -14,7 +14,6 @@ use super::write::write_range;
 use policy::reach::reached;
 use policy::renew::is_renewed;
 use policy::write::write_choice;
-use table::privilege::first_privileges;
 use table::privilege::numbers_at;
 use table::privilege::privileges_at;
 use table::rule::Rule;
@@ -28,14 +27,13 @@ fn complete_opened(
     marks: &[u8],
     x: usize,
     first: usize,
-    kids: &[u16],
     opened: &mut [u8; 256],
     out: &mut [u8],
 )
-    requires { ⌜ Visited (now words) (now marks) x first (now kids) (now opened) (now out) × Opened (now words) (Allowed (now marks)) x ⌝ }
+    requires { ⌜ Visited (now words) (now marks) x first (now opened) (now out) × Opened (now words) (Allowed (now marks)) x ⌝ }
     ensures { λ _. ⌜ Done (now (words .entry)) (now (marks .entry)) x (now (opened .entry)) (now (out .entry)) (now (opened .exit)) (now (out .exit)) ⌝ }
 {
-    open_all(opened, kids);
+    open_all(opened, children(words, x));
     write_range(out, marks, true, first, first + privileges_at(words, x));
 }
 
@@ -45,16 +43,15 @@ fn complete_star(
     marks: &[u8],
     x: usize,
     first: usize,
-    kids: &[u16],
     opened: &mut [u8; 256],
     out: &mut [u8],
 )
-    requires { ⌜ Visited (now words) (now marks) x first (now kids) (now opened) (now out) × (Opened (now words) (Allowed (now marks)) x → ⊥) × IsStar (now words) x ⌝ }
+    requires { ⌜ Visited (now words) (now marks) x first (now opened) (now out) × (Opened (now words) (Allowed (now marks)) x → ⊥) × IsStar (now words) x ⌝ }
     ensures { λ _. ⌜ Done (now (words .entry)) (now (marks .entry)) x (now (opened .entry)) (now (out .entry)) (now (opened .exit)) (now (out .exit)) ⌝ }
 {
     let n = numbers_at(words, x, first);
     if is_renewed(marks, n) {
-        open_all(opened, kids);
+        open_all(opened, children(words, x));
     }
     write_range(out, marks, false, first, first + privileges_at(words, x));
     write_exchange(out, marks, n);
@@ -66,16 +63,15 @@ fn complete_choice(
     marks: &[u8],
     x: usize,
     first: usize,
-    kids: &[u16],
     opened: &mut [u8; 256],
     out: &mut [u8],
 )
-    requires { ⌜ Visited (now words) (now marks) x first (now kids) (now opened) (now out) × (Opened (now words) (Allowed (now marks)) x → ⊥) × IsChoice (now words) x ⌝ }
+    requires { ⌜ Visited (now words) (now marks) x first (now opened) (now out) × (Opened (now words) (Allowed (now marks)) x → ⊥) × IsChoice (now words) x ⌝ }
     ensures { λ _. ⌜ Done (now (words .entry)) (now (marks .entry)) x (now (opened .entry)) (now (out .entry)) (now (opened .exit)) (now (out .exit)) ⌝ }
 {
     let n = numbers_at(words, x, first);
     let square = reached(words, marks, x, n);
-    open_cycles(opened, kids, &square);
+    open_cycles(opened, children(words, x), &square);
     write_choice(out, &square, n);
 }
 
@@ -85,63 +81,42 @@ fn complete_type(
     marks: &[u8],
     x: usize,
     first: usize,
-    kids: &[u16],
     opened: &mut [u8; 256],
     out: &mut [u8],
 )
-    requires { ⌜ Visited (now words) (now marks) x first (now kids) (now opened) (now out) ⌝ }
+    requires { ⌜ Visited (now words) (now marks) x first (now opened) (now out) ⌝ }
     ensures { λ _. ⌜ Done (now (words .entry)) (now (marks .entry)) x (now (opened .entry)) (now (out .entry)) (now (opened .exit)) (now (out .exit)) ⌝ }
 {
     if opened[x] == 1 {
-        complete_opened(words, marks, x, first, kids, opened, out);
+        complete_opened(words, marks, x, first, opened, out);
         return;
     }
     let rule = rule_at(words, x);
     match rule {
-        Rule::Choice { first: _, count: _ } => complete_choice(
-            words,
-            marks,
-            x,
-            first,
-            kids,
-            opened,
-            out,
-        ),
-        Rule::Star { first: _, count: _ } => complete_star(
-            words,
-            marks,
-            x,
-            first,
-            kids,
-            opened,
-            out,
-        ),
+        Rule::Choice { first: _, count: _ } => complete_choice(words, marks, x, first, opened, out),
+        Rule::Star { first: _, count: _ } => complete_star(words, marks, x, first, opened, out),
         Rule::Empty | Rule::Text | Rule::Sequence { first: _, count: _ } => {
             write_range(out, marks, false, first, first + privileges_at(words, x))
         }
     }
 }
 
-// All types, each after its parents: the order holds each type after its children, and is read backwards.
-pub fn complete_all(words: &[u16], marks: &[u8], order: &[u8; 256], out: &mut [u8])
-    requires { ⌜ Policy (now words) (now marks) × BottomUp (now words) (now order) × (privileges (now words) ≤ length (now out)) ⌝ }
+// All types, each after its parents: the order holds each type after its children, and is read backwards. The first privilege of each is given.
+pub fn complete_all(
+    words: &[u16],
+    marks: &[u8],
+    order: &[u8; 256],
+    firsts: &[u16; 256],
+    out: &mut [u8],
+)
+    requires { ⌜ Policy (now words) (now marks) × BottomUp (now words) (now order) × HasFirsts (now words) (now firsts) × (privileges (now words) ≤ length (now out)) ⌝ }
     ensures { λ _. ⌜ Filled (now (words .entry)) (now (marks .entry)) (now (out .entry)) (now (out .exit)) ⌝ }
 {
-    let mut firsts = [0u16; 256];
-    first_privileges(words, &mut firsts);
     let mut opened = [0u8; 256];
     let mut k = types(words);
     while 0 < k {
         k -= 1;
         let x = order[k] as usize;
-        complete_type(
-            words,
-            marks,
-            x,
-            firsts[x] as usize,
-            children(words, x),
-            &mut opened,
-            out,
-        );
+        complete_type(words, marks, x, firsts[x] as usize, &mut opened, out);
     }
 }

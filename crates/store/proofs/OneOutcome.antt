@@ -13,6 +13,8 @@ use Rattle.mending.specs.Answers.{MendAnswer}
 use Rattle.proposing.specs.Answers.{ProposeAnswer}
 use Rattle.mending.proofs.Answered.{mend-one}
 use Rattle.proposing.proofs.Answered.{propose-one}
+use Rattle.roles.specs.Answers.{RolesAnswer}
+use Rattle.roles.proofs.Roles.{roles-one}
 use Rattle.store.specs.Outcomes.{outcomeOf, CheckAnswer, ReadAnswer, Told}
 use Rattle.store.specs.declared.Outcome.{Outcome}
 
@@ -39,6 +41,10 @@ module _ {ws marks : List ℕ} {o p : Outcome} where
   pub complete-outcome : {out x y : List ℕ} → Told (λ a. CompleteAnswer ws marks out a x) o → Told (λ a. CompleteAnswer ws marks out a y) p
       → (o ≡ p) × (x ≡ y)
   complete-outcome s t = let one = complete-one (s .promised) (t .promised) in (told-one s t (one .0), one .1)
+
+  pub roles-outcome : {numbers out i j x y : List ℕ} → Told (λ a. RolesAnswer ws marks numbers out a i x) o
+      → Told (λ a. RolesAnswer ws marks numbers out a j y) p → (o ≡ p) × (i ≡ j) × (x ≡ y)
+  roles-outcome s t = let one = roles-one (s .promised) (t .promised) in (told-one s t (one .0), one .1, one .2)
 
   pub mend-outcome : {out x y : List ℕ} → Told (λ a. MendAnswer ws marks out a x) o → Told (λ a. MendAnswer ws marks out a y) p
       → (o ≡ p) × (x ≡ y)

@@ -1,15 +1,17 @@
-// The six calls for programs in C and Rust: runs and lengths in, an outcome out. include/finnedscarf.h declares them.
+// The seven calls for programs in C and Rust: runs and lengths in, an outcome out. include/finnedscarf.h declares them.
 // Contracts cite specs/Outcomes for the outcome, and the definitions of the crate that makes the call for the answer.
 ghost use mathlib.Core.Path.{_≡_};
 ghost use Rattle.verdict.specs.Answers.{JudgeAnswer};
 ghost use Rattle.completion.specs.Answers.{CompleteAnswer};
 ghost use Rattle.mending.specs.Answers.{MendAnswer};
 ghost use Rattle.proposing.specs.Answers.{ProposeAnswer};
+ghost use Rattle.roles.specs.Answers.{RolesAnswer};
 ghost use Rattle.store.specs.Outcomes.{outcomeOf, CheckAnswer, ReadAnswer, Told};
 use completion::complete;
 use dtd::read_dtd;
 use mending::mend;
 use proposing::judge_mend;
+use roles::complete_roles;
 use table::check_table;
 use verdict::Answer;
 use verdict::judge_policy;
@@ -87,6 +89,20 @@ pub extern "C" fn finnedscarf_complete(words: &[u16], marks: &[u8], out: &mut [u
     ensures { λ r. ⌜ Told (λ a. CompleteAnswer (now (words .entry)) (now (marks .entry)) (now (out .entry)) a (now (out .exit))) r ⌝ }
 {
     outcome_of(complete(words, marks, out))
+}
+
+// Completes the policies of as many roles as there are numbers, over one table: refuses with 1 to 10, 12 or 19 and leaves the numbers and the result as
+// they were, or writes each role's number, 0, 11 or 16, and the V decided marks of each with 0 into its own stretch of the result, and keeps all else.
+#[no_mangle]
+pub extern "C" fn finnedscarf_complete_roles(
+    words: &[u16],
+    marks: &[u8],
+    numbers: &mut [u16],
+    out: &mut [u8],
+) -> Outcome
+    ensures { λ r. ⌜ Told (λ a. RolesAnswer (now (words .entry)) (now (marks .entry)) (now (numbers .entry)) (now (out .entry)) a (now (numbers .exit)) (now (out .exit))) r ⌝ }
+{
+    outcome_of(complete_roles(words, marks, numbers, out))
 }
 
 // Mends a policy: refuses with 1 to 12 or 19 and leaves the result as it was, or writes what the rule gives into it, keeps its rest, and counts the

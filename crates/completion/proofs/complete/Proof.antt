@@ -52,10 +52,14 @@ first-breach-requires c κs = let first = c .before .before .before in (fits fir
 enum-told : tie.Need-enum-told
 enum-told c = search needs
 
+first-privileges-requires : tie.Need-first-privileges-requires
+first-privileges-requires c κs = (fits (c .before .before .before .before .before .before .before) .0 .accepted, refl)
+
 complete-all-requires : tie.Need-complete-all-requires
 complete-all-requires c κs =
-    let asked = c .before .before .before .before .before .before in
-    (fits (asked .before .before) .0, ordered (asked .before .before), room asked)
+    let listed = c .before .before .before in
+    let asked = listed .before .before .before .before .before .before in
+    (fits (asked .before .before) .0, ordered (asked .before .before), listed .first-privileges .ensures .each, room asked)
 
 refused-requires-3 : tie.Need-refused-requires-3
 refused-requires-3 c κs = search needs
@@ -66,7 +70,7 @@ same-length c = search needs
 returns-3 : tie.Need-returns-3
 returns-3 c =
     let filled = c .before .before .before in
-    let told = filled .before .before .before in
+    let told = filled .before .before .before .before .before .before in
     let found = told .before .before in
     filled-given (room (found .before .before)) (filled .complete-all .ensures) (fits (found .before .before .before .before) .0)
     (verdict-clean _ _ (found .first-breach .ensures) (told .enum-told .given .1)) (c .refused3 .ensures)
@@ -88,6 +92,7 @@ complete-spec =
     returns-2
     first-breach-requires
     enum-told
+    first-privileges-requires
     complete-all-requires
     refused-requires-3
     same-length

@@ -14,11 +14,10 @@ use Rattle.policy.specs.steps.Writing.{Decision}
 use Rattle.completion.specs.steps.Writing.{isOpen, KidsOpened, TypeWritten}
 
 -- a type of a policy with its first privilege, its flag told, and room for the result
-pub record Visited (ws marks : List ℕ) (x first : ℕ) (kids opened out : List ℕ) : Type 0 where
+pub record Visited (ws marks : List ℕ) (x first : ℕ) (opened out : List ℕ) : Type 0 where
   pub policy : Policy ws marks
   pub type : x < types ws
   pub first-is : first ≡ firstPrivilege ws x
-  pub kids-are : kids ≡ childrenAt ws x
   pub size : length opened ≡ 256
   pub told : Tells (Opened ws (Allowed marks) x) (isOpen opened x)
   pub room : privileges ws ≤ length out
@@ -27,6 +26,10 @@ pub record Visited (ws marks : List ℕ) (x first : ℕ) (kids opened out : List
 pub record Done (ws marks : List ℕ) (x : ℕ) (opened out opened-after out-after : List ℕ) : Type 0 where
   pub kids : KidsOpened (PassesOn ws (Allowed marks) x) (childrenAt ws x) opened opened-after
   pub own : TypeWritten ws (Granted ws (Allowed marks)) x out out-after
+
+-- a number for each type, its first privilege
+abbrev pub HasFirsts : List ℕ → List ℕ → Type 0
+HasFirsts ws firsts = (x : ℕ) → x < types ws → getD firsts x 0 ≡ firstPrivilege ws x
 
 -- all V marks are decided by what is granted, and the rest is as it was
 pub record Filled (ws marks old new : List ℕ) : Type 0 where

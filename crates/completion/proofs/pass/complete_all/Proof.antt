@@ -1,28 +1,28 @@
 -- The pass has done the types from place k of the order on, and so the parents of the type that it comes to. Assumes nothing.
 use Prim.Native.Nat.{ℕ, _+_, _-_, _≤_, _<_}
-use mathlib.Core.Path.{_≡_, refl}
+use mathlib.Core.Path.{_≡_}
 use native.Mathlib.Omega.{arith}
 use borrow.Author.Needs.{needs}
 use denote.Ref.{now}
 use lib.ListN.{getD}
 use Rattle.table.specs.Words.{types}
 use Rattle.table.specs.Privilege.{firstPrivilege}
-use Rattle.table.proofs.Facts.{facts, has-children}
+use Rattle.table.proofs.Facts.{facts}
 use Rattle.table.proofs.Privileges.{first-within}
 use Rattle.completion.proofs.Descent.{Descended, descent-start, descent-told, descent-more, descent-all}
 use Rattle.completion.proofs.pass.complete_all.Statement.{statement}
 use Rattle.completion.proofs.pass.complete_all.Tie as tie
 
 abbrev Inv-loop : tie.InvT-loop
-Inv-loop words marks order out₀ firsts opened₀ k₀ out opened k = (k ≤ types words) × Descended words marks order k opened out₀ out
+Inv-loop words marks order firsts out₀ opened₀ k₀ out opened k = (k ≤ types words) × Descended words marks order k opened out₀ out
 
 abbrev μ-loop : tie.MeasureT-loop
-μ-loop words marks order out₀ firsts opened₀ k₀ out opened k = k
+μ-loop words marks order firsts out₀ opened₀ k₀ out opened k = k
 
 -- the loop comes to the place before k, which holds a type
 module _ (c : tie.In-loop Inv-loop μ-loop) where
   abbrev begin : tie.Start Inv-loop μ-loop
-  begin = c .before .before .before .before .before .before .before .before
+  begin = c .before .before .before .before .before .before
 
   place : c .before .loop .k - 1 < types (now (begin .args .words))
   place = omega (arith, c .loop-test .taken, c .before .loop .inv .0)
@@ -36,8 +36,8 @@ module _ (c : tie.In-loop Inv-loop μ-loop) where
   type : x < types (now (begin .args .words))
   type = begin .pre .1 .inside (c .before .loop .k - 1) place
 
-  first-is : getD (c .before .before .before .first-privileges .last .1 .0) x 0 ≡ firstPrivilege (now (begin .args .words)) x
-  first-is = c .before .before .before .first-privileges .ensures .each x type
+  first-is : getD (now (begin .args .firsts)) x 0 ≡ firstPrivilege (now (begin .args .words)) x
+  first-is = begin .pre .2 x type
 
   first-low : firstPrivilege (now (begin .args .words)) x ≤ 4096
   first-low = omega (arith, first-within (now (begin .args .words)) x (omega (arith, type)), facts (begin .pre .0 .accepted) .privileges-few)
@@ -46,14 +46,11 @@ module _ (c : tie.In-loop Inv-loop μ-loop) where
   stands : Descended (now (begin .args .words)) (now (begin .args .marks)) (now (begin .args .order)) (c .before .loop .k - 1 + 1) (c .before .loop .opened) (now (begin .args .out)) (c .before .loop .out)
   stands = let e : c .before .loop .k ≡ c .before .loop .k - 1 + 1 = omega (arith, c .loop-test .taken) in rw e at (c .before .loop .inv .1)
 
-first-privileges-requires : tie.Need-first-privileges-requires Inv-loop μ-loop
-first-privileges-requires c κs = (c .before .before .before .before .pre .0 .accepted, refl)
-
 types-requires : tie.Need-types-requires Inv-loop μ-loop
 types-requires c κs = search needs
 
 loop-holds : tie.Need-loop-holds Inv-loop μ-loop
-loop-holds c = (search needs, rw (c .types .ensures .is) (descent-start (c .before .before .before .before .before .before .pre .0 .accepted)))
+loop-holds c = (search needs, rw (c .types .ensures .is) (descent-start (c .before .before .before .before .pre .0 .accepted)))
 
 sub-k : tie.Need-sub-k Inv-loop μ-loop
 sub-k c = search needs
@@ -67,14 +64,11 @@ cast-x c = omega (arith, type (c .before), few (c .before))
 mul-complete-type : tie.Need-mul-complete-type Inv-loop μ-loop
 mul-complete-type c = omega (arith, type (c .before), few (c .before))
 
-array-read-complete-type : tie.Need-array-read-complete-type Inv-loop μ-loop
-array-read-complete-type c = omega (arith, type (c .before), few (c .before))
+element-copy-out-complete-type : tie.Need-element-copy-out-complete-type Inv-loop μ-loop
+element-copy-out-complete-type c = omega (arith, type (c .before), few (c .before))
 
 cast-complete-type : tie.Need-cast-complete-type Inv-loop μ-loop
-cast-complete-type c = omega (arith, first-is (c .before), first-low (c .before))
-
-children-requires : tie.Need-children-requires Inv-loop μ-loop
-children-requires c κs = has-children (begin (c .before) .pre .0 .accepted) (type (c .before))
+cast-complete-type c = omega (arith, first-is (c .before .before), first-low (c .before .before))
 
 complete-type-requires : tie.Need-complete-type-requires Inv-loop μ-loop
 complete-type-requires c κs =
@@ -84,10 +78,9 @@ complete-type-requires c κs =
       policy = pre .0;
       type = type loop;
       first-is = first-is loop;
-      kids-are = c .before .before .children .ensures;
       size = loop .before .loop .inv .1 .flags;
       told = descent-told (pre .0 .accepted) (pre .1) (stands loop) (place loop);
-      room = omega (arith, pre .2, loop .before .loop .inv .1 .size);
+      room = omega (arith, pre .3, loop .before .loop .inv .1 .size);
     }
 
 loop-less : tie.Need-loop-less Inv-loop μ-loop
@@ -106,7 +99,7 @@ returns : tie.Need-returns Inv-loop μ-loop
 returns c =
     let at = c .before in
     let end : at .loop .k ≡ 0 = omega (arith, c .loop-test .left) in
-    descent-all (at .before .before .before .before .before .before .before .pre .1) (rw end at (at .loop .inv .1))
+    descent-all (at .before .before .before .before .before .pre .1) (rw end at (at .loop .inv .1))
 
 pub complete-all-spec : {M : Type 1} → statement M
 complete-all-spec =
@@ -114,16 +107,14 @@ complete-all-spec =
     (tie.spec
     Inv-loop
     μ-loop
-    first-privileges-requires
     types-requires
     loop-holds
     sub-k
     element-copy-out-x
     cast-x
     mul-complete-type
-    array-read-complete-type
+    element-copy-out-complete-type
     cast-complete-type
-    children-requires
     complete-type-requires
     loop-less
     loop-again

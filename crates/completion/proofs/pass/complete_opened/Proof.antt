@@ -2,14 +2,17 @@
 use mathlib.Core.Logic.{inl}
 use native.Mathlib.Omega.{arith}
 use borrow.Author.Needs.{needs}
-use Rattle.table.proofs.Facts.{has-record}
+use Rattle.table.proofs.Facts.{has-children, has-record}
 use Rattle.completion.proofs.Openings.{kids-as}
 use Rattle.completion.proofs.Passing.{opened-own, visit-small, visit-end, visit-fits}
 use Rattle.completion.proofs.pass.complete_opened.Statement.{statement}
 use Rattle.completion.proofs.pass.complete_opened.Tie as tie
 
+children-requires : tie.Need-children-requires
+children-requires c κs = let visit = c .before .before .before .before .pre .0 in has-children (visit .policy .accepted) (visit .type)
+
 open-all-requires : tie.Need-open-all-requires
-open-all-requires c κs = let visit = c .before .before .before .before .before .pre .0 in (visit .size, visit-small visit)
+open-all-requires c κs = let visit = c .before .before .before .before .before .pre .0 in (visit .size, visit-small visit (c .children .ensures))
 
 privileges-at-requires : tie.Need-privileges-at-requires
 privileges-at-requires c κs = let visit = c .before .before .before .before .before .before .before .pre .0 in has-record (visit .policy .accepted) (visit .type)
@@ -33,7 +36,7 @@ returns c =
     let opened = written .before .before .before in
     let pre = opened .before .before .before .before .before .before .pre in
     record {
-      kids = kids-as (λ i l u. inl (pre .1)) (λ i l g. tt) (rw (pre .0 .kids-are) at (opened .open-all .ensures));
+      kids = kids-as (λ i l u. inl (pre .1)) (λ i l g. tt) (rw (opened .before .children .ensures) at (opened .open-all .ensures));
       own = opened-own (pre .0) (pre .1) (written .before .privileges-at .ensures .is) (written .write-range .ensures);
     }
 
@@ -41,6 +44,7 @@ pub complete-opened-spec : {M : Type 1} → statement M
 complete-opened-spec =
     tie.close
     (tie.spec
+    children-requires
     open-all-requires
     privileges-at-requires
     add-write-range

@@ -4,7 +4,7 @@ use native.Mathlib.Omega.{arith}
 use borrow.Author.Needs.{needs}
 use denote.Ref.{now}
 use Rattle.table.specs.steps.Numbering.{NumberedAs}
-use Rattle.table.proofs.Facts.{has-record}
+use Rattle.table.proofs.Facts.{has-children, has-record}
 use Rattle.table.proofs.Lowest.{told-yes, told-no}
 use Rattle.policy.proofs.Renewals.{renewed-out, renewed-into}
 use Rattle.completion.proofs.Openings.{kids-none}
@@ -13,36 +13,39 @@ use Rattle.completion.proofs.pass.complete_star.Statement.{statement}
 use Rattle.completion.proofs.pass.complete_star.Tie as tie
 
 -- the numbering is that of the star
-numbered : (c : tie.After-numbers-at) → let a = c .before .before .before .before .before .args in NumberedAs (now (a .words)) (a .x) (c .numbers-at .result)
+numbered : (c : tie.After-numbers-at) → let a = c .before .before .before .before .args in NumberedAs (now (a .words)) (a .x) (c .numbers-at .result)
 numbered c = c .numbers-at .ensures
 
 numbers-at-requires : tie.Need-numbers-at-requires
-numbers-at-requires c κs = let visit = c .before .before .before .before .pre .0 in (visit .policy .accepted, visit .type, visit .first-is)
+numbers-at-requires c κs = let visit = c .before .before .before .pre .0 in (visit .policy .accepted, visit .type, visit .first-is)
 
 is-renewed-requires : tie.Need-is-renewed-requires
 is-renewed-requires c κs = numbered c .low
 
+children-requires : tie.Need-children-requires
+children-requires c κs = let visit = c .before .before .before .before .before .before .before .pre .0 in has-children (visit .policy .accepted) (visit .type)
+
 open-all-requires : tie.Need-open-all-requires
-open-all-requires c κs = let visit = c .before .before .before .before .before .before .before .before .pre .0 in (visit .size, visit-small visit)
+open-all-requires c κs = let visit = c .before .before .before .before .before .before .before .before .pre .0 in (visit .size, visit-small visit (c .children .ensures))
 
 privileges-at-requires : tie.Need-privileges-at-requires
-privileges-at-requires c κs = let visit = c .before .before .before .before .before .before .before .before .pre .0 in has-record (visit .policy .accepted) (visit .type)
+privileges-at-requires c κs = let visit = c .before .before .before .before .before .before .before .pre .0 in has-record (visit .policy .accepted) (visit .type)
 
 add-write-range : tie.Need-add-write-range
 add-write-range c =
-    let visit = c .before .before .before .before .before .before .before .before .before .pre .0 in
+    let visit = c .before .before .before .before .before .before .before .before .pre .0 in
     omega (arith, visit-fits visit (c .privileges-at .ensures .is))
 
 write-range-requires : tie.Need-write-range-requires
 write-range-requires c κs =
-    let visit = c .before .before .before .before .before .before .before .before .before .pre .0 in
+    let visit = c .before .before .before .before .before .before .before .before .pre .0 in
     omega (arith, visit-end visit (c .privileges-at .ensures .is), visit .room)
 
 write-exchange-requires : tie.Need-write-exchange-requires
 write-exchange-requires c κs =
     let written = c .before .before .before in
     let n = c .before .before .before .before .before .before .before .before in
-    let pre = n .before .before .before .before .before .pre in
+    let pre = n .before .before .before .before .pre in
     (numbered n .low, exchange-room (pre .0) (written .write-range .last .0) (pre .2) (numbered n) (written .write-range .ensures .size))
 
 same-length : tie.Need-same-length
@@ -55,10 +58,10 @@ returns c =
     let joined = written .before .before .before in
     let asked = joined .before .is-renewed in
     let n = joined .before .before in
-    let pre = n .before .before .before .before .before .pre in
+    let pre = n .before .before .before .before .pre in
     record {
       kids = ⊎-elim
-          (λ w. rw (w .3) (star-kids (pre .0 .policy .accepted) (pre .2) (renewed-out (numbered n) (pre .2) (told-yes (asked .result) (asked .ensures) (w .0 .taken))) (rw (pre .0 .kids-are) at (w .2 .ensures))))
+          (λ w. rw (w .4) (star-kids (pre .0 .policy .accepted) (pre .2) (renewed-out (numbered n) (pre .2) (told-yes (asked .result) (asked .ensures) (w .0 .taken))) (rw (w .2 .ensures) at (w .3 .ensures))))
           (λ w. rw (w .1) (kids-none (pre .0 .size) (λ i l g. told-no (asked .result) (asked .ensures) (w .0 .left) (renewed-into (numbered n) (star-passes (pre .1) (pre .2) g)))))
           (joined .if1 .came);
       own = star-own (pre .0) (pre .1) (pre .2) (numbered n) (written .before .privileges-at .ensures .is) (written .write-range .ensures) (exchanged .write-exchange .ensures);
@@ -70,6 +73,7 @@ complete-star-spec =
     (tie.spec
     numbers-at-requires
     is-renewed-requires
+    children-requires
     open-all-requires
     privileges-at-requires
     add-write-range

@@ -1,0 +1,97 @@
+/*
+ * roles FILE...: reads a policy from each file, the table's words (low byte first) and then the marks, all of one table, and completes them by
+ * one call. Says for each file the completed marks, or the number with which that role is refused. Exits with 0 if no role is refused, 1 if
+ * one is, 2 if the call is or a file cannot be taken.
+ */
+#include <stdio.h>
+#include <stdlib.h>
+#include <string.h>
+
+#include "finnedscarf.h"
+
+enum { MOST = 8192 };
+
+struct policy {
+    uint8_t bytes[MOST + 1];
+    uint16_t words[MOST / 2];
+    size_t words_length, marks_length;
+};
+
+static void stop(const char *file, const char *what)
+{
+    fprintf(stderr, "%s: %s\n", file, what);
+    exit(2);
+}
+
+static void read_policy(const char *file, struct policy *p)
+{
+    FILE *from = fopen(file, "rb");
+    if (!from)
+        stop(file, "cannot be read");
+    size_t length = fread(p->bytes, 1, sizeof p->bytes, from);
+    if (ferror(from))
+        stop(file, "cannot be read");
+    fclose(from);
+    if (length > MOST)
+        stop(file, "over 8,192 bytes");
+
+    size_t count = length / 2;
+    for (size_t k = 0; k < count; k++)
+        p->words[k] = (uint16_t)(p->bytes[2 * k] + 256 * p->bytes[2 * k + 1]);
+    if (count > 1 && p->words[1] < count)
+        count = p->words[1];
+    p->words_length = count;
+    p->marks_length = length - 2 * count;
+}
+
+static int same_table(const struct policy *a, const struct policy *b)
+{
+    return a->words_length == b->words_length && memcmp(a->words, b->words, a->words_length * sizeof a->words[0]) == 0;
+}
+
+static void say_role(const char *file, uint16_t number, const uint8_t *marks, size_t v)
+{
+    if (number != FINNEDSCARF_DONE) {
+        printf("%s: refused with number %d\n", file, number);
+        return;
+    }
+    printf("%s: ", file);
+    for (size_t k = 0; k < v; k++)
+        putchar('0' + marks[k]);
+    putchar('\n');
+}
+
+int main(int argc, char **argv)
+{
+    static struct policy first, other;
+    if (argc < 2)
+        stop("usage", "roles FILE...");
+    size_t roles = (size_t)argc - 1;
+    uint16_t *numbers = calloc(roles, sizeof *numbers);
+    uint8_t *marks = malloc(roles * MOST), *out = calloc(roles, MOST);
+    if (!numbers || !marks || !out)
+        stop("roles", "no memory");
+
+    read_policy(argv[1], &first);
+    size_t v = first.marks_length;
+    for (size_t r = 0; r < roles; r++) {
+        read_policy(argv[r + 1], &other);
+        if (!same_table(&first, &other))
+            stop(argv[r + 1], "another table than that of the first file");
+        if (other.marks_length != v)
+            stop(argv[r + 1], "not as many marks as the first file has");
+        memcpy(marks + r * v, other.bytes + 2 * other.words_length, v);
+    }
+
+    finnedscarf_outcome o = finnedscarf_complete_roles(first.words, first.words_length, marks, roles * v, numbers, roles, out, roles * v);
+    if (o.number != FINNEDSCARF_DONE) {
+        printf("refused with number %zu, place %zu\n", o.number, o.place);
+        return 2;
+    }
+    int refused = 0;
+    for (size_t r = 0; r < roles; r++) {
+        say_role(argv[r + 1], numbers[r], out + r * v, v);
+        refused = refused || numbers[r] != FINNEDSCARF_DONE;
+    }
+    return refused;
+}
