@@ -1,14 +1,17 @@
-// Measures the six calls of the proved library, five of them against the second program and against `fast`. bench/run builds and runs it; the modes:
+// Measures the seven calls of the proved library, all but `read_dtd` against the second program and `fast`. bench/run builds and runs it; the modes:
 //   check               reads a stream of cases (second/README.md) and compares all makes
 //   time                nanoseconds a call
 //   growth              the same for tables that double
 //   stack               bytes of stack
+//   roles               nanoseconds a role of complete_roles, and a single call on each role
 //   texts               nanoseconds a call of read_dtd, a line for each text
 //   lengths             nanoseconds a byte of texts that double
 //   documents FOLDER    writes a document for each text, for another parser
 //   list                what is measured: CALL INPUT and the number of its cases
+//   shows               what is measured of complete_roles: an input of complete, and the number of roles
 //   tables              the inputs of `growth`
-//   count MAKE CALL INPUT TIMES   makes a call on an input so many times, to be counted from outside
+//   count MAKE CALL INPUT TIMES   makes a call on an input so many times, to be counted from outside; of complete_roles an input is INPUT/ROLES, and
+//                       CALL may be complete_each, the single call on each of the roles
 
 mod calls;
 mod dtd;
@@ -17,6 +20,7 @@ mod inputs;
 mod plain;
 #[path = "../bindings/rust/src/border.rs"]
 mod proved;
+mod roles;
 mod rounds;
 mod stack;
 mod texts;
@@ -60,7 +64,7 @@ fn compare_on(case: &Case, call: Call, at: &str) {
 fn check() {
     let mut stream = Vec::new();
     std::io::stdin().read_to_end(&mut stream).unwrap_or_else(|_| fail("cannot read the input"));
-    let (cases, texts) = plain::cases_of(&stream);
+    let (cases, texts, shows) = plain::cases_of(&stream);
     for (k, case) in cases.iter().enumerate() {
         CALLS.iter().for_each(|&call| compare_on(case, call, &format!("case {}", k)));
     }
@@ -72,6 +76,7 @@ fn check() {
         }
     }
     println!("equal: {} cases with five calls each, and {} measured calls", cases.len(), own);
+    println!("equal: {} shows of several roles, and {} measured ones", shows.len(), roles::check(&shows));
     println!("equal: {} DTD texts, and {} measured ones", texts.len(), dtd::check(&texts));
 }
 
@@ -91,6 +96,13 @@ fn measure(makes: &[Make], call: Call, input: &Input, budget: Duration) -> Vec<(
     found.into_iter().map(|(least, median)| (least / each, median / each)).collect()
 }
 
+/// The least and the median of the rounds of proved, fast and second, and two quotients of them.
+fn row(call: &str, input: &str, makes: [(f64, f64); 3]) -> String {
+    let [proved, fast, second] = makes.map(|(least, _)| least);
+    let cells = makes.map(|(least, median)| format!("{:.0} ({:.0})", least, median)).join(" | ");
+    format!("| {} | {} | {} | {:.2} | {:.1} |", call, input, cells, proved / fast, second / proved)
+}
+
 fn time() {
     println!("ns a call, least of the rounds (median of the rounds)\n");
     println!("| Call | Input | proved | fast | second | proved / fast | second / proved |");
@@ -99,13 +111,10 @@ fn time() {
         for input in inputs(call) {
             let ours = measure(&MAKES[..2], call, &input, Duration::from_millis(600));
             let second = measure(&MAKES[2..], call, &input, Duration::from_millis(100))[0];
-            let cell = |(least, median): (f64, f64)| format!("{:.0} ({:.0})", least, median);
-            let (proved, fast) = (ours[0], ours[1]);
-            let ratios = format!("{:.2} | {:.1}", proved.0 / fast.0, second.0 / proved.0);
-            let cells = [cell(proved), cell(fast), cell(second), ratios].join(" | ");
-            println!("| {} | {} | {} |", call.name(), input.name, cells);
+            println!("{}", row(call.name(), &input.name, [ours[0], ours[1], second]));
         }
     }
+    roles::time();
 }
 
 fn growth() {
@@ -150,6 +159,7 @@ fn stacks() {
             MAKES.iter().map(|make| most_stack(make, call).to_string()).collect();
         println!("| {} | {} |", call.name(), found.join(" | "));
     }
+    println!("| {} | {} |", roles::NAME, MAKES.each_ref().map(roles::most_stack).join(" | "));
     println!("| {} | {} |", dtd::NAME, MAKES.each_ref().map(dtd::most_stack).join(" | "));
 }
 
@@ -195,15 +205,19 @@ fn main() {
         ["time"] => time(),
         ["growth"] => growth(),
         ["stack"] => stacks(),
+        ["roles"] => roles::time_roles(),
         ["texts"] => dtd::time(),
         ["lengths"] => dtd::growth(),
         ["documents", folder] => dtd::documents(folder),
         ["list"] => list(),
+        ["shows"] => roles::list(),
         ["tables"] => tables(),
         ["count", make, dtd::NAME, text, times] => dtd::count(make, text, times),
+        ["count", make, roles::NAME, show, times] => roles::count(make, show, times),
+        ["count", make, roles::EACH, show, times] => roles::count_each(make, show, times),
         ["count", make, call, input, times] => count(make, call, input, times),
         _ => fail(
-            "modes: check | time | growth | stack | texts | lengths | documents FOLDER | list | tables | count MAKE CALL INPUT TIMES",
+            "modes: check | time | growth | stack | roles | texts | lengths | documents FOLDER | list | shows | tables | count MAKE CALL INPUT TIMES",
         ),
     }
 }

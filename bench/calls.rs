@@ -1,4 +1,5 @@
-// The calls, of three makes: proved, fast and second. Five take a table and a policy; the sixth reads DTD text, and has no fast make.
+// The calls, of three makes: proved, fast and second. Five take a table and a policy, one a table and the policies of all roles; the seventh reads
+// DTD text, and has no fast make.
 
 use crate::{fast, plain, proved};
 
@@ -11,6 +12,7 @@ impl Outcome {
     }
 }
 
+pub type CompleteRoles = fn(&[u16], &[u8], &mut [u16], &mut [u8]) -> Outcome;
 pub type ReadDtd = fn(&[u8], &mut [u16]) -> Outcome;
 
 pub struct Make {
@@ -18,6 +20,7 @@ pub struct Make {
     pub check_table: fn(&[u16]) -> Outcome,
     pub judge_policy: fn(&[u16], &[u8]) -> Outcome,
     pub complete: fn(&[u16], &[u8], &mut [u8]) -> Outcome,
+    pub complete_roles: CompleteRoles,
     pub mend: fn(&[u16], &[u8], &mut [u8]) -> Outcome,
     pub judge_mend: fn(&[u16], &[u8], &[u8]) -> Outcome,
     pub read_dtd: Option<ReadDtd>,
@@ -29,6 +32,7 @@ pub const MAKES: [Make; 3] = [
         check_table: proved::check_table,
         judge_policy: proved::judge_policy,
         complete: proved::complete,
+        complete_roles: proved::complete_roles,
         mend: proved::mend,
         judge_mend: proved::judge_mend,
         read_dtd: Some(proved::read_dtd),
@@ -38,6 +42,7 @@ pub const MAKES: [Make; 3] = [
         check_table: fast::check_table,
         judge_policy: fast::judge_policy,
         complete: fast::complete,
+        complete_roles: fast::complete_roles,
         mend: fast::mend,
         judge_mend: fast::judge_mend,
         read_dtd: None,
@@ -47,6 +52,7 @@ pub const MAKES: [Make; 3] = [
         check_table: plain::check_table,
         judge_policy: plain::judge_policy,
         complete: plain::complete,
+        complete_roles: plain::complete_roles,
         mend: plain::mend,
         judge_mend: plain::judge_mend,
         read_dtd: Some(plain::read_dtd),
@@ -62,7 +68,7 @@ pub enum Call {
     JudgeMend,
 }
 
-/// The calls that take a table.
+/// The calls that take a table and a policy.
 pub const CALLS: [Call; 5] =
     [Call::CheckTable, Call::JudgePolicy, Call::Complete, Call::Mend, Call::JudgeMend];
 

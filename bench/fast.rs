@@ -1,4 +1,4 @@
-// The five calls written by hand for speed, in plain Rust: what the proved code is measured against.
+// The calls but `read_dtd` written by hand for speed, in plain Rust: what the proved code is measured against. fast/roles.rs has that on all roles.
 // The steps are those of the proved code: a table check that puts the types in order, one bottom-up pass for whether something is forbidden below
 // each type, Warshall's closure for each choice, the chain of the first breach and a count of what is forbidden below its child, a completion that
 // opens downwards, a mend in ascending order with the closure made anew for each mark taken. What is done by hand: a table is accepted by a pass over
@@ -7,7 +7,10 @@
 // checked and compared many at a time, read 16 at a time, each mark's bit gathered by a multiplication, and written eight at a time; the format is
 // asked once a call, and what goes by it is compiled for each. Nothing is allocated, and nothing is unsafe.
 
+mod roles;
+
 use crate::calls::Outcome;
+pub use roles::complete_roles;
 use std::mem::replace;
 
 const EMPTY: u16 = 0;
@@ -755,18 +758,23 @@ fn fill_firsts(table: &Table, firsts: &mut [u16; 256]) {
 }
 
 fn complete_all(table: &Table, marks: &[u8], out: &mut [u8]) {
+    let mut firsts = [0; 256];
+    fill_firsts(table, &mut firsts);
     if table.is_two {
-        complete_all_in::<TWO>(table, marks, out)
+        complete_all_in::<TWO>(table, &firsts, marks, out)
     } else {
-        complete_all_in::<ONE>(table, marks, out)
+        complete_all_in::<ONE>(table, &firsts, marks, out)
     }
 }
 
 /// Parents come before their children: each type is known to be opened or not when its turn comes, and the texts when all others had theirs.
-fn complete_all_in<const IS_TWO: bool>(table: &Table, marks: &[u8], out: &mut [u8]) {
+fn complete_all_in<const IS_TWO: bool>(
+    table: &Table,
+    firsts: &[u16; 256],
+    marks: &[u8],
+    out: &mut [u8],
+) {
     let mut opened = [false; 256];
-    let mut firsts = [0; 256];
-    fill_firsts(table, &mut firsts);
     for &x in table.order {
         let record = &table.records[x as usize];
         let kids = table.children(record);

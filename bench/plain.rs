@@ -3,7 +3,8 @@
 use crate::calls::{Case, Outcome};
 use second::answers::{answer, Answer, Breach};
 use second::dtd_case::DtdCase;
-use second::{cases, completing, conditions, dtd, mending, table};
+use second::roles_case::RolesCase;
+use second::{cases, completing, conditions, dtd, mending, roles, table};
 
 fn outcome_of(outcome: second::answers::Outcome) -> Outcome {
     let Answer { number, place, count, breach } = answer(outcome);
@@ -24,6 +25,10 @@ pub fn complete(words: &[u16], marks: &[u8], out: &mut [u8]) -> Outcome {
     outcome_of(completing::complete(words, marks, out))
 }
 
+pub fn complete_roles(words: &[u16], marks: &[u8], numbers: &mut [u16], out: &mut [u8]) -> Outcome {
+    outcome_of(roles::complete_roles(words, marks, numbers, out))
+}
+
 pub fn mend(words: &[u16], marks: &[u8], out: &mut [u8]) -> Outcome {
     outcome_of(mending::mend(words, marks, out))
 }
@@ -36,14 +41,15 @@ pub fn read_dtd(text: &[u8], out: &mut [u16]) -> Outcome {
     outcome_of(dtd::read_dtd(text, out))
 }
 
-/// The policies and the DTD texts of a stream of cases (second/README.md has its form).
-pub fn cases_of(stream: &[u8]) -> (Vec<Case>, Vec<DtdCase>) {
-    let (mut policies, mut texts) = (Vec::new(), Vec::new());
+/// The policies, the DTD texts and the calls on roles of a stream of cases (second/README.md has its form).
+pub fn cases_of(stream: &[u8]) -> (Vec<Case>, Vec<DtdCase>, Vec<RolesCase>) {
+    let (mut policies, mut texts, mut roles) = (Vec::new(), Vec::new(), Vec::new());
     for case in cases::read_cases(stream) {
         match case {
             cases::Case::Policy(case) => policies.push(case),
             cases::Case::Dtd(case) => texts.push(case),
+            cases::Case::Roles(case) => roles.push(case),
         }
     }
-    (policies, texts)
+    (policies, texts, roles)
 }
