@@ -155,20 +155,19 @@ module _ {ws : List ℕ} {S : ℕ → Type 0} {x : ℕ} {square : List ℕ} (shu
       go : (p : ℕ) → (i : ℕ) × (j : ℕ) × Replaceable ws x i j × (p ≡ replaceOf ws x i j) → Decision (Granted ws S p) (getD new p 0)
       go p (i, j, r, e) = rw e (decision-as (grant r) (lead r) (rw (replace-in h i j) at (w .all i j (replaceable-in h r))))
 
+-- a type's children are few, and their numbers are indices of the flags
+module _ {ws kids : List ℕ} {x : ℕ} (a : Accepted ws) (e : kids ≡ childrenAt ws x) (t : x < types ws) where
+  kids-count : length kids ≡ countOf ws x
+  kids-count = ap length e ∙ facts a .children-here x t
+
+  pub kids-few : length kids ≤ 16
+  kids-few = omega (arith, kids-count, facts a .children-few x t)
+
+  pub kids-small : (i : ℕ) → i < length kids → getD kids i 0 < 256
+  kids-small i l = let f = facts a in rw e (omega (arith, f .few, f .child-inside x i t (rw (← kids-count) l)))
+
 -- at a type that is visited
 module _ {ws marks opened out : List ℕ} {x first : ℕ} (v : Visited ws marks x first opened out) where
-  visit-count : {kids : List ℕ} → kids ≡ childrenAt ws x → length kids ≡ countOf ws x
-  visit-count e = ap length e ∙ facts (v .policy .accepted) .children-here x (v .type)
-
-  -- its children are few, and their numbers are indices of the flags
-  pub visit-few : {kids : List ℕ} → kids ≡ childrenAt ws x → length kids ≤ 16
-  visit-few e = omega (arith, visit-count e, facts (v .policy .accepted) .children-few x (v .type))
-
-  pub visit-small : {kids : List ℕ} → kids ≡ childrenAt ws x → (i : ℕ) → i < length kids → getD kids i 0 < 256
-  visit-small e i l =
-      let f = facts (v .policy .accepted) in
-      rw e (omega (arith, f .few, f .child-inside x i (v .type) (rw (← visit-count e) l)))
-
   -- its own marks end within the result
   pub visit-end : {n : ℕ} → n ≡ privilegesAt ws x → first + n ≤ privileges ws
   visit-end e = omega (arith, e, v .first-is, first-next ws x, first-within ws (x + 1) (omega (arith, v .type)))

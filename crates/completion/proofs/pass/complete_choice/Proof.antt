@@ -3,7 +3,7 @@ use borrow.Author.Needs.{needs}
 use denote.Ref.{now}
 use Rattle.table.proofs.Facts.{has-children}
 use Rattle.table.specs.steps.Numbering.{NumberedAs}
-use Rattle.completion.proofs.Passing.{choice-kids, choice-own, choice-room, visit-few, visit-small}
+use Rattle.completion.proofs.Passing.{choice-kids, choice-own, choice-room, kids-few, kids-small}
 use Rattle.completion.proofs.pass.complete_choice.Statement.{statement}
 use Rattle.completion.proofs.pass.complete_choice.Tie as tie
 
@@ -27,7 +27,8 @@ open-cycles-requires : tie.Need-open-cycles-requires
 open-cycles-requires c κs =
     let visit = c .before .before .before .before .before .before .before .before .pre .0 in
     let kids = c .before .children .ensures in
-    (visit .size, visit-few visit kids, visit-small visit kids)
+    let accepted = visit .policy .accepted in
+    (visit .size, kids-few accepted kids (visit .type), kids-small accepted kids (visit .type))
 
 write-choice-requires : tie.Need-write-choice-requires
 write-choice-requires c κs =

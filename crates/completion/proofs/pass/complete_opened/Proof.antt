@@ -4,15 +4,17 @@ use native.Mathlib.Omega.{arith}
 use borrow.Author.Needs.{needs}
 use Rattle.table.proofs.Facts.{has-children, has-record}
 use Rattle.completion.proofs.Openings.{kids-as}
-use Rattle.completion.proofs.Passing.{opened-own, visit-small, visit-end, visit-fits}
+use Rattle.completion.proofs.Passing.{kids-small, opened-own, visit-end, visit-fits}
 use Rattle.completion.proofs.pass.complete_opened.Statement.{statement}
 use Rattle.completion.proofs.pass.complete_opened.Tie as tie
 
 children-requires : tie.Need-children-requires
-children-requires c κs = let visit = c .before .before .before .before .pre .0 in has-children (visit .policy .accepted) (visit .type)
+children-requires c κs = let visit = c .before .before .before .before .pre .0 in has-children (visit .policy .accepted) (omega (arith, visit .type))
 
 open-all-requires : tie.Need-open-all-requires
-open-all-requires c κs = let visit = c .before .before .before .before .before .pre .0 in (visit .size, visit-small visit (c .children .ensures))
+open-all-requires c κs =
+    let visit = c .before .before .before .before .before .pre .0 in
+    (visit .size, kids-small (visit .policy .accepted) (c .children .ensures) (omega (arith, visit .type)))
 
 privileges-at-requires : tie.Need-privileges-at-requires
 privileges-at-requires c κs = let visit = c .before .before .before .before .before .before .before .pre .0 in has-record (visit .policy .accepted) (visit .type)

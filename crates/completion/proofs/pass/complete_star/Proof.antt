@@ -8,7 +8,7 @@ use Rattle.table.proofs.Facts.{has-children, has-record}
 use Rattle.table.proofs.Lowest.{told-yes, told-no}
 use Rattle.policy.proofs.Renewals.{renewed-out, renewed-into}
 use Rattle.completion.proofs.Openings.{kids-none}
-use Rattle.completion.proofs.Passing.{star-own, exchange-room, star-passes, star-kids, visit-small, visit-end, visit-fits}
+use Rattle.completion.proofs.Passing.{star-own, exchange-room, star-passes, star-kids, kids-small, visit-end, visit-fits}
 use Rattle.completion.proofs.pass.complete_star.Statement.{statement}
 use Rattle.completion.proofs.pass.complete_star.Tie as tie
 
@@ -23,10 +23,12 @@ is-renewed-requires : tie.Need-is-renewed-requires
 is-renewed-requires c κs = numbered c .low
 
 children-requires : tie.Need-children-requires
-children-requires c κs = let visit = c .before .before .before .before .before .before .before .pre .0 in has-children (visit .policy .accepted) (visit .type)
+children-requires c κs = let visit = c .before .before .before .before .before .before .before .pre .0 in has-children (visit .policy .accepted) (omega (arith, visit .type))
 
 open-all-requires : tie.Need-open-all-requires
-open-all-requires c κs = let visit = c .before .before .before .before .before .before .before .before .pre .0 in (visit .size, visit-small visit (c .children .ensures))
+open-all-requires c κs =
+    let visit = c .before .before .before .before .before .before .before .before .pre .0 in
+    (visit .size, kids-small (visit .policy .accepted) (c .children .ensures) (omega (arith, visit .type)))
 
 privileges-at-requires : tie.Need-privileges-at-requires
 privileges-at-requires c κs = let visit = c .before .before .before .before .before .before .before .pre .0 in has-record (visit .policy .accepted) (visit .type)
