@@ -119,7 +119,7 @@ module _ {ws : List ℕ} {S : ℕ → Type 0} where
   drawn-source (exchange x) o d = both-source (o .star) d
   drawn-source (replace x i j) o d = reached-source d
 
-  opens-source : {x i : ℕ} → OpensAt ws (Granted ws S) x i → Opened ws S x ⊎ OpensAt ws S x i
+  pub opens-source : {x i : ℕ} → OpensAt ws (Granted ws S) x i → Opened ws S x ⊎ OpensAt ws S x i
   opens-source (opens.star s r e) = elim (renewed-source s r) [ inl o ↦ inl o | inr q ↦ inr (opens.star s q e) ]
   opens-source (opens.cycle s r) = elim (reached-source r) [ inl o ↦ inl o | inr q ↦ inr (opens.cycle s q) ]
 
@@ -129,7 +129,7 @@ opens-child {ws} {x = x} a (opens.star s r e) = rw e (child-at a x 0 (s .type) (
 opens-child {ws} {x = x} {i = i} a (opens.cycle s r) = child-at a x i (s .type) (reached-from r)
 
 module _ {ws : List ℕ} {S : ℕ → Type 0} (a : Accepted ws) where
-  opened-source : {y : ℕ} → Opened ws (Granted ws S) y → Opened ws S y
+  pub opened-source : {y : ℕ} → Opened ws (Granted ws S) y → Opened ws S y
   opened-source {y} o = elim (opens-source (o .opens)) [
     | inl p ↦ opened-down p (below-trans (o .below) (down (childAt ws (o .at) (o .i)) (opens-child a (o .opens)) here))
     | inr p ↦ record { at = o .at; i = o .i; opens = p; below = o .below }

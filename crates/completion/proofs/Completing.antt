@@ -1,17 +1,15 @@
--- Completing a policy: what was written is the least completion; a call has one outcome; and filling one more blank takes nothing back
+-- Completing a policy: with a breach there is no completion; a call has one outcome; and filling one more blank takes nothing back
 -- (demand 3). Assumes nothing.
-use Prim.Native.Nat.{ℕ, _+_, _-_, _≤_, _<_}
+use Prim.Native.Nat.{ℕ, _≤_, _<_}
 use mathlib.Core.Path.{_≡_, sym, ap, _∙_}
 use mathlib.Core.Logic.{_↔_}
 use mathlib.Core.List.{List, _++_}
 use native.Mathlib.Omega.{arith}
-use lib.ListN.{length, getD, take, drop, length-drop, take-append-drop, List·getD-append}
-use lib.Seq.{length-take-le, getD-take, getD-drop, ext-getD}
+use lib.ListN.{length, getD, drop, List·getD-append}
 use Rattle.table.specs.Privilege.{privileges}
 use Rattle.policy.specs.Marks.{Allowed, Policy}
-use Rattle.verdict.specs.Conditions.{Clean}
 use Rattle.verdict.specs.Breaches.{spotOf, FirstBreach}
-use Rattle.verdict.specs.Answers.{breached, done}
+use Rattle.verdict.specs.Answers.{breached}
 use Rattle.verdict.specs.declared.Answer.{Answer}
 use Rattle.verdict.specs.declared.Breach.{Breach}
 use Rattle.policy.proofs.Policies.{policy-not, refused-one, refused-number}
@@ -19,31 +17,13 @@ use Rattle.verdict.proofs.Firsts.{first-one, clean-none}
 use Rattle.verdict.proofs.Judged.{refusal-one}
 use Rattle.completion.specs.Completions.{Keeps, Completes, LeastCompletion}
 use Rattle.completion.specs.Granted.{Granted}
-use Rattle.completion.specs.steps.Passes.{Filled}
 use Rattle.completion.specs.Answers.{CompleteAnswer, refused, short, none, given}
-use Rattle.completion.proofs.Least.{Completed, completes-clean, completed-least, least-one, completes-earlier, fuller-allows}
+use Rattle.completion.proofs.Least.{completes-clean, least-one, completes-earlier, fuller-allows}
 use Rattle.completion.proofs.Granting.{least-granted}
 
 -- a policy with a breach has no completion
 pub broken-none : {ws m : List ℕ} {b : Breach} → FirstBreach ws m b → (n : List ℕ) → ¬ Completes ws m n
 broken-none {ws} {m} {b} f n c = clean-none ws m (completes-clean c) (spotOf b) (b .privilege) (f .breach)
-
--- a clean one gets what was written
-module _ {ws m out after : List ℕ} (room : privileges ws ≤ length out) (f : Filled ws m out after) where
-  front : Completed ws m (take (privileges ws) after)
-  front = record {
-    size = length-take-le (privileges ws) after (omega (arith, f .size));
-    each = λ p l. rw (getD-take (privileges ws) after p 0 l) (f .each p l);
-  }
-
-  rest-kept : drop (privileges ws) after ≡ drop (privileges ws) out
-  rest-kept = ext-getD 0 (drop (privileges ws) after) (drop (privileges ws) out)
-      (length-drop (privileges ws) after ∙ ap (λ (n : ℕ). n - privileges ws) (f .size) ∙ sym (length-drop (privileges ws) out))
-      (λ i l. getD-drop (privileges ws) after i 0 ∙ f .rest (privileges ws + i) (omega arith) ∙ sym (getD-drop (privileges ws) out i 0))
-
-  pub filled-given : {a : Answer} → Policy ws m → Clean ws m → a ≡ done 0 → CompleteAnswer ws m out a after
-  filled-given pol q e = given pol room (completed-least pol front q) e
-      (sym (take-append-drop (privileges ws) after) ∙ ap (λ (l : List ℕ). take (privileges ws) after ++ l) rest-kept)
 
 -- a call has one outcome: its answer, and what the lent result holds
 pub complete-one : {ws m out : List ℕ} {a b : Answer} {x y : List ℕ} → CompleteAnswer ws m out a x → CompleteAnswer ws m out b y → (a ≡ b) × (x ≡ y)

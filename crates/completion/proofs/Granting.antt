@@ -1,13 +1,12 @@
 -- What a policy grants, tested; the completion, computed by that test; and theorem 2 of document 000, that a policy has a completion exactly
 -- if it is clean, and exactly if nothing granted is forbidden. The tests hold of every run of words and of marks. Assumes nothing.
-use Prim.Native.Nat.{ℕ, zero, suc, _<_}
-use mathlib.Core.Path.{_≡_, refl, ap}
+use Prim.Native.Nat.{ℕ, suc, _<_}
+use mathlib.Core.Path.{_≡_, refl}
 use mathlib.Core.Logic.{_⊎_, inl, inr, _↔_}
 use mathlib.Core.Bool.{Bool, true, false}
-use mathlib.Core.List.{List, [], _∷_}
+use mathlib.Core.List.{List}
 use native.Mathlib.Omega.{arith}
 use lib.Dec.{T}
-use lib.ListN.{length, getD}
 use Rattle.table.specs.Words.{types}
 use Rattle.table.specs.Rule.{countOf, childAt}
 use Rattle.table.specs.Privilege.{privileges, exchangeOf, replaceOf, Exchangeable, Replaceable, Edit, text, insert, delete, exchange, replace, Offers, privilegeOf}
@@ -24,24 +23,13 @@ use Rattle.verdict.proofs.PolicyTests.{allowed, forbidden, policy, reached, bot
 use Rattle.completion.specs.Completions.{Completes, LeastCompletion}
 use Rattle.completion.specs.Granted.{Granted}
 use Rattle.completion.specs.steps.Opens.{OpensAt, star, cycle, Opened}
+use Rattle.completion.specs.steps.Passes.{Filled}
 use Rattle.policy.specs.steps.Writing.{Decision, allow, forbid, decision}
 use Rattle.completion.proofs.Closed.{opened-forces, Drawn, Own, forces-cases, drawn-forces}
-use Rattle.completion.proofs.Least.{Completed, completes-clean, completes-grants, allowed-granted, completed-least}
+use Rattle.completion.proofs.Least.{completes-clean, completes-grants, allowed-granted, completed-least}
 use Rattle.policy.proofs.Reaches.{reached-from}
-
--- f 0, f 1 and so on, n numbers
-abbrev tabulate : ℕ → (ℕ → ℕ) → List ℕ
-tabulate zero f = []
-tabulate (suc n) f = f 0 ∷ tabulate n (λ p. f (suc p))
-
-tabulate-length : (n : ℕ) (f : ℕ → ℕ) → length (tabulate n f) ≡ n
-tabulate-length zero f = refl
-tabulate-length (suc n) f = ap suc (tabulate-length n (λ p. f (suc p)))
-
-tabulate-at : (n : ℕ) (f : ℕ → ℕ) (p : ℕ) → p < n → getD (tabulate n f) p 0 ≡ f p
-tabulate-at zero f p l = absurd (omega arith)
-tabulate-at (suc n) f zero l = refl
-tabulate-at (suc n) f (suc p) l = tabulate-at n (λ p. f (suc p)) p (omega arith)
+use Rattle.policy.specs.Tabulated.{tabulate}
+use Rattle.policy.proofs.Tabulates.{tabulate-length, tabulate-at}
 
 -- the mark that a test decides
 decide-test : {P : Type 0} (t : Test P) → Decision P (decision (t .run))
@@ -124,7 +112,7 @@ module _ (ws m : List ℕ) where
   abbrev pub completeBy : List ℕ
   completeBy = tabulate (privileges ws) (λ p. decision (granted p .run))
 
-  pub complete-by : Completed ws m completeBy
+  pub complete-by : Filled ws m completeBy
   complete-by = record {
     size = tabulate-length (privileges ws) (λ p. decision (granted p .run));
     each = λ p l. rw (tabulate-at (privileges ws) (λ p. decision (granted p .run)) p l) (decide-test (granted p));

@@ -5,7 +5,7 @@ use mathlib.Core.Path.{_≡_, sym, _∙_}
 use mathlib.Core.Logic.{_⊎_, inl, inr}
 use mathlib.Core.List.{List}
 use native.Mathlib.Omega.{arith}
-use lib.ListN.{length, getD}
+use lib.ListN.{getD}
 use lib.Seq.{ext-getD}
 use Rattle.table.specs.Privilege.{privileges}
 use Rattle.table.proofs.Lists.{le-or-lt}
@@ -15,13 +15,9 @@ use Rattle.policy.proofs.Policies.{marked-within}
 use Rattle.verdict.proofs.Forced.{forces-mono, forced-below, clean-forces, forces-clean}
 use Rattle.completion.specs.Completions.{Keeps, Completes, LeastCompletion}
 use Rattle.completion.specs.Granted.{Granted}
+use Rattle.completion.specs.steps.Passes.{Filled}
 use Rattle.policy.specs.steps.Writing.{Decision, allow, forbid}
 use Rattle.completion.proofs.Closed.{granted-closed}
-
--- n allows exactly what is granted
-pub record Completed (ws m n : List ℕ) : Type 0 where
-  pub size : length n ≡ privileges ws
-  pub each : (p : ℕ) → p < privileges ws → Decision (Granted ws (Allowed m) p) (getD n p 0)
 
 -- a fully decided policy that keeps m's marks and passes: then m passes, and it allows what m forces
 module _ {ws m o : List ℕ} (c : Completes ws m o) where
@@ -38,7 +34,7 @@ module _ {ws m o : List ℕ} (c : Completes ws m o) where
     | inr b ↦ absurd (clean-forces (c .clean) p (forces-mono keeps-allowed f) b)
   ]
 
-module _ {ws m n : List ℕ} (pol : Policy ws m) (c : Completed ws m n) where
+module _ {ws m n : List ℕ} (pol : Policy ws m) (c : Filled ws m n) where
   pub allowed-granted : (p : ℕ) → Allowed n p → Granted ws (Allowed m) p
   allowed-granted p a = go (c .each p (omega (arith, marked-within n p (omega arith), c .size)))
     where

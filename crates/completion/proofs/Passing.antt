@@ -1,7 +1,7 @@
 -- What a type passes on to its children, and what is granted of its own privileges, by its kind. Assumes nothing.
 use Prim.Native.Nat.{ℕ, _+_, _≤_, _<_}
 use mathlib.Core.Path.{_≡_, refl, sym, ap, _∙_}
-use mathlib.Core.Logic.{_≢_, _⊎_, inl, inr}
+use mathlib.Core.Logic.{_≢_, _⊎_, inl, inr, _↔_}
 use mathlib.Core.Bool.{Bool, true, false, true≢false}
 use mathlib.Core.List.{List}
 use native.Mathlib.Omega.{arith}
@@ -10,7 +10,7 @@ use lib.ListN.{length, getD, set, length-set}
 use lib.Seq.{getD-set-same, getD-set-other}
 use Rattle.table.specs.Words.{types}
 use Rattle.table.specs.Rule.{ruleAt, kindIn, countOf, childrenAt, IsChoice, IsStar}
-use Rattle.table.specs.Privilege.{privilegesAt, firstPrivilege, privileges, Belongs, exchangeOf, replaceOf, Exchangeable, Replaceable, Edit, text, insert, delete, exchange, replace, typeOf, Offers, privilegeOf}
+use Rattle.table.specs.Privilege.{privilegesAt, firstPrivilege, Belongs, exchangeOf, replaceOf, Exchangeable, Replaceable, Edit, text, insert, delete, exchange, replace, typeOf, Offers, privilegeOf}
 use Rattle.table.specs.steps.Numbering.{NumberedAs, exchangeIn, ExchangeableIn}
 use Rattle.table.specs.declared.privilege.Numbering.{Numbering}
 use Rattle.table.specs.Check.{Accepted}
@@ -24,12 +24,11 @@ use Rattle.policy.specs.steps.Squares.{marked, Square}
 use Rattle.verdict.specs.Forces.{chain}
 use Rattle.verdict.specs.Forces as forces
 use Rattle.policy.proofs.Renewals.{both-out, both-into}
-use Rattle.policy.proofs.SquareLaws.{marked-told, told-marked, room-of}
+use Rattle.policy.proofs.SquareLaws.{marked-told, told-marked}
 use Rattle.completion.specs.Granted.{Granted}
 use Rattle.completion.specs.steps.Opens.{star, cycle, Opened, PassesOn}
 use Rattle.completion.specs.steps.Passes.{Visited}
-use Rattle.policy.specs.steps.Squares.{Room}
-use Rattle.policy.specs.steps.Writing.{Decision, allow, ChoiceWritten, RangeWritten}
+use Rattle.policy.specs.steps.Writing.{Decision, ChoiceWritten, RangeWritten}
 use Rattle.completion.specs.steps.Writing.{KidsOpened, ExchangeWritten, drawn, kept, TypeWritten}
 use Rattle.completion.proofs.Closed.{opened-forces, Drawn, Own, forces-cases, step-source}
 use Rattle.completion.proofs.Openings.{kids-as}
@@ -166,68 +165,70 @@ module _ {ws kids : List ℕ} {x : ℕ} (a : Accepted ws) (e : kids ≡ children
   pub kids-small : (i : ℕ) → i < length kids → getD kids i 0 < 256
   kids-small i l = let f = facts a in rw e (omega (arith, f .few, f .child-inside x i t (rw (← kids-count) l)))
 
+-- the marks of the star x with what insert and delete make of its exchange
+record Exchanged (ws marks : List ℕ) (x : ℕ) (mid : List ℕ) : Type 0 where
+  size : length mid ≡ length marks
+  own : (p : ℕ) → Belongs ws p x → Allowed mid p ↔ Granted ws (Allowed marks) p
+  rest : (p : ℕ) → ¬ Belongs ws p x → getD mid p 0 ≡ getD marks p 0
+
 -- at a type that is visited
-module _ {ws marks opened out : List ℕ} {x first : ℕ} (v : Visited ws marks x first opened out) where
-  -- its own marks end within the result
-  pub visit-end : {n : ℕ} → n ≡ privilegesAt ws x → first + n ≤ privileges ws
-  visit-end e = omega (arith, e, v .first-is, first-next ws x, first-within ws (x + 1) (omega (arith, v .type)))
+module _ {ws marks opened : List ℕ} {x first : ℕ} (v : Visited ws marks x first opened) where
+  -- its own marks end within the policy's
+  pub visit-end : {n : ℕ} → n ≡ privilegesAt ws x → first + n ≤ length marks
+  visit-end e = omega (arith, e, v .first-is, first-next ws x, first-within ws (x + 1) (omega (arith, v .type)), v .policy .fit .size)
 
   pub visit-fits : {n : ℕ} → n ≡ privilegesAt ws x → first + n ≤ 4096
-  visit-fits e = omega (arith, visit-end e, facts (v .policy .accepted) .privileges-few)
+  visit-fits e = omega (arith, visit-end e, v .policy .fit .size, facts (v .policy .accepted) .privileges-few)
 
   -- all of them are granted where it is opened, else those that are allowed, unless it is a star or a choice
   pub opened-own : {n : ℕ} {new : List ℕ} → Opened ws (Allowed marks) x → n ≡ privilegesAt ws x
-      → RangeWritten (λ p. (_≡_ {A = Bool} true true) ⊎ Allowed marks p) first (first + n) out new → TypeWritten ws (Granted ws (Allowed marks)) x out new
+      → RangeWritten (λ p. (_≡_ {A = Bool} true true) ⊎ Allowed marks p) first (first + n) marks new → TypeWritten ws (Granted ws (Allowed marks)) x marks new
   opened-own o e = range-own (v .type) (v .first-is) e (λ p b g. inr (opened-forces o b)) (λ p b g. inl refl)
 
   pub plain-own : {n : ℕ} {new : List ℕ} → ¬ Opened ws (Allowed marks) x → kindIn (ruleAt ws x) ≢ 3 → kindIn (ruleAt ws x) ≢ 4 → n ≡ privilegesAt ws x
-      → RangeWritten (λ p. (false ≡ true) ⊎ Allowed marks p) first (first + n) out new → TypeWritten ws (Granted ws (Allowed marks)) x out new
+      → RangeWritten (λ p. (false ≡ true) ⊎ Allowed marks p) first (first + n) marks new → TypeWritten ws (Granted ws (Allowed marks)) x marks new
   plain-own shut d s e = range-own (v .type) (v .first-is) e
       (λ p b g. elim g [ inl z ↦ absurd (true≢false (sym z)) | inr a ↦ inl a ])
       (λ p b g. inr (granted-plain shut d s b g))
 
-  -- at a star the exchange too where insert and delete are
-  pub star-own : {n : ℕ} {mid new : List ℕ} {k : Numbering} → ¬ Opened ws (Allowed marks) x → IsStar ws x → NumberedAs ws x k → n ≡ privilegesAt ws x
-      → RangeWritten (λ p. (false ≡ true) ⊎ Allowed marks p) first (first + n) out mid → ExchangeWritten marks k mid new
-      → TypeWritten ws (Granted ws (Allowed marks)) x out new
-  star-own {n} {mid} {new} {k} shut s h e w t = go t
-    where
-      kept-mark : (p : ℕ) → Belongs ws p x → (p ≡ exchangeOf ws x → Exchangeable ws x → ¬ Both ws (Allowed marks) x)
-          → Decision (Granted ws (Allowed marks) p) (getD mid p 0)
-      kept-mark p b d = decision-as {P = (false ≡ true) ⊎ Allowed marks p}
-          (λ g. elim g [ inl z ↦ absurd (true≢false (sym z)) | inr a ↦ inl a ])
-          (λ g. inr (elim (granted-star shut s b g) [ inl a ↦ a | inr (q, c, f) ↦ absurd (d q c f) ]))
-          (w .within p (omega (arith, v .first-is, b .from)) (omega (arith, v .first-is, e, b .until)))
-
-      old : TypeWritten ws (λ p. (false ≡ true) ⊎ Allowed marks p) x out mid
-      old = range-own (v .type) (v .first-is) e (λ p b g. g) (λ p b g. g) w
-
-      go : ExchangeWritten marks k mid new → TypeWritten ws (Granted ws (Allowed marks)) x out new
-      go (kept d q) = rw q (record {
-        size = w .size;
-        own = λ p b. kept-mark p b (λ z c f. d (exchangeable-in h c, both-into h f));
-        rest = old .rest;
-      })
-      go (drawn c b q) = rw q (record {
-        size = length-set mid (exchangeIn k) 1 ∙ w .size;
-        own = λ p z. mark p z (ℕ-discrete p (exchangeIn k));
-        rest = λ p z. getD-set-other mid (exchangeIn k) p 1 0 (λ y. z (rw (y, exchange-in h) (edit-belongs ws (exchange x) can))) ∙ old .rest p z;
-      })
-        where
-          can : Exchangeable ws x
-          can = in-exchangeable h s c
-
-          there : exchangeIn k < length mid
-          there = omega (arith, exchange-in h, edit-below ws (exchange x) can, v .room, w .size)
-
-          mark : (p : ℕ) → Belongs ws p x → Dec (p ≡ exchangeIn k) → Decision (Granted ws (Allowed marks) p) (getD (set mid (exchangeIn k) 1) p 0)
-          mark p z (yes y) = allow (inr (forces.exchange x can (both-out h b) (y ∙ exchange-in h))) (rw y (getD-set-same mid (exchangeIn k) 1 0 there))
-          mark p z (no y) = rw (getD-set-other mid (exchangeIn k) p 1 0 y) (kept-mark p z (λ r g f. y (r ∙ sym (exchange-in h))))
-
   -- room for the exchange of a star
-  pub exchange-room : {k : Numbering} (new : List ℕ) → IsStar ws x → NumberedAs ws x k → length new ≡ length out → ExchangeableIn k → exchangeIn k < length new
-  exchange-room new s h e c = omega (arith, exchange-in h, edit-below ws (exchange x) (in-exchangeable h s c), v .room)
+  pub exchange-room : {k : Numbering} → IsStar ws x → NumberedAs ws x k → ExchangeableIn k → exchangeIn k < length marks
+  exchange-room s h c = omega (arith, exchange-in h, edit-below ws (exchange x) (in-exchangeable h s c), v .policy .fit .size)
 
-  -- room for the replacements of a choice
-  pub choice-room : {n : Numbering} → IsChoice ws x → NumberedAs ws x n → Room n out
-  choice-room c h = room-of (v .room) c h
+  -- at a star what is allowed with the exchange is granted
+  module _ (shut : ¬ Opened ws (Allowed marks) x) (s : IsStar ws x) {k : Numbering} (h : NumberedAs ws x k) where
+    star-exchanged : {mid : List ℕ} → ExchangeWritten k marks mid → Exchanged ws marks x mid
+    star-exchanged (kept d q) = rw q (record {
+      size = refl;
+      own = λ p b. (inl, λ g. elim (granted-star shut s b g) [ inl a ↦ a | inr (z, c, f) ↦ absurd (d (exchangeable-in h c, both-into h f)) ]);
+      rest = λ p d. refl;
+    })
+    star-exchanged (drawn c b q) = rw q (record {
+      size = length-set marks (exchangeIn k) 1;
+      own = λ p z. mark p z (ℕ-discrete p (exchangeIn k));
+      rest = λ p z. getD-set-other marks (exchangeIn k) p 1 0 (λ y. z (rw (y, exchange-in h) (edit-belongs ws (exchange x) (in-exchangeable h s c))));
+    })
+      where
+        mark : (p : ℕ) → Belongs ws p x → Dec (p ≡ exchangeIn k) → Allowed (set marks (exchangeIn k) 1) p ↔ Granted ws (Allowed marks) p
+        mark p z (yes y) = (
+          λ a. inr (forces.exchange x (in-exchangeable h s c) (both-out h b) (y ∙ exchange-in h)),
+          λ g. rw y (getD-set-same marks (exchangeIn k) 1 0 (exchange-room s h c)),
+        )
+        mark p z (no y) = rw (getD-set-other marks (exchangeIn k) p 1 0 y) (
+          inl,
+          λ g. elim (granted-star shut s z g) [ inl a ↦ a | inr (r, e, f) ↦ absurd (y (r ∙ sym (exchange-in h))) ],
+        )
+
+    -- so they are decided
+    pub star-own : {n : ℕ} {mid new : List ℕ} → n ≡ privilegesAt ws x → ExchangeWritten k marks mid
+        → RangeWritten (λ p. (false ≡ true) ⊎ Allowed mid p) first (first + n) mid new → TypeWritten ws (Granted ws (Allowed marks)) x marks new
+    star-own {n} {mid} {new} e t w = record { size = own .size ∙ drew .size; own = own .own; rest = λ p d. own .rest p d ∙ drew .rest p d }
+      where
+        drew : Exchanged ws marks x mid
+        drew = star-exchanged t
+
+        own : TypeWritten ws (Granted ws (Allowed marks)) x mid new
+        own = range-own {P = λ p. (false ≡ true) ⊎ Allowed mid p} (v .type) (v .first-is) e
+            (λ p b g. elim g [ inl z ↦ absurd (true≢false (sym z)) | inr a ↦ drew .own p b .0 a ])
+            (λ p b g. inr (drew .own p b .1 g))
+            w

@@ -5,7 +5,7 @@ mod open;
 pub mod pass;
 mod write;
 
-use pass::complete_all;
+use pass::complete_copy;
 use policy::marks::check_policy;
 use table::privilege::first_privileges;
 use verdict::Answer;
@@ -22,7 +22,8 @@ pub fn complete(words: &[u16], marks: &[u8], out: &mut [u8]) -> Answer
     if checked.number != 0 {
         return refused(checked.number, checked.place);
     }
-    if out.len() < checked.place {
+    let v = checked.place;
+    if out.len() < v {
         return refused(12, 0);
     }
     let breach = first_breach(words, marks, &order);
@@ -30,7 +31,7 @@ pub fn complete(words: &[u16], marks: &[u8], out: &mut [u8]) -> Answer
     if let Condition::None = condition {
         let mut firsts = [0u16; 256];
         first_privileges(words, &mut firsts);
-        complete_all(words, marks, &order, &firsts, out);
+        complete_copy(words, marks, &order, &firsts, &mut out[0..v]);
         return refused(0, 0);
     }
     Answer {

@@ -1,7 +1,7 @@
 // Mending a policy by the stated rule. Contracts cite specs/Answers and specs/Mends.
 ghost use Rattle.mending.specs.Answers.{MendAnswer};
 
-mod mend_types;
+pub mod mend_types;
 mod taking;
 
 use policy::marks::check_policy;

@@ -11,6 +11,7 @@ ghost use Rattle.mending.specs.Mends.{Mends};
 ghost use Rattle.mending.specs.steps.Taking.{Spoilt, CleanUpTo, Visited, Cleaned};
 use super::taking::next_taken;
 use super::taking::star_taken;
+use policy::marks::copy;
 use policy::reach::reached_by;
 use policy::renew::is_renewed;
 use policy::rows::read_rows;
@@ -128,7 +129,7 @@ fn mend_type(words: &[u16], m: &mut [u8], flags: &[u8; 256], x: usize, first: us
 }
 
 // Mends a policy in place, and counts the marks taken. The order holds each type after its children.
-fn mend_all(words: &[u16], order: &[u8; 256], m: &mut [u8]) -> usize
+pub fn mend_all(words: &[u16], order: &[u8; 256], m: &mut [u8]) -> usize
     requires { ⌜ Policy (now words) (now m) × BottomUp (now words) (now order) ⌝ }
     ensures { λ r. ⌜ Mends (now (words .entry)) (now (m .entry)) (now (m .exit)) r ⌝ }
 {
@@ -146,18 +147,6 @@ fn mend_all(words: &[u16], order: &[u8; 256], m: &mut [u8]) -> usize
         x += 1;
     }
     count
-}
-
-// Copies the marks, all of them.
-fn copy(marks: &[u8], m: &mut [u8])
-    requires { ⌜ length (now m) ≡ length (now marks) ⌝ }
-    ensures { λ _. ⌜ now (m .exit) ≡ now (marks .entry) ⌝ }
-{
-    let mut p = 0;
-    while p < marks.len() {
-        m[p] = marks[p];
-        p += 1;
-    }
 }
 
 // Mends a copy of the marks of a policy.

@@ -8,3 +8,4 @@ pub mod Bits
 pub mod Packing
 pub mod RowMarks
 pub mod Writings
+pub mod Tabulates

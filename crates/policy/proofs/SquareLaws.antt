@@ -12,7 +12,7 @@ use lib.ListN.{length, getD, set, length-set}
 use lib.Seq.{getD-set-same, getD-set-other}
 use Rattle.table.specs.steps.Found.{Tells}
 use Rattle.table.specs.Rule.{IsChoice}
-use Rattle.table.specs.Privilege.{privileges, replace}
+use Rattle.table.specs.Privilege.{replace}
 use Rattle.table.specs.steps.Numbering.{NumberedAs}
 use Rattle.table.specs.declared.privilege.Numbering.{Numbering}
 use Rattle.table.proofs.Lowest.{told-yes, told-true, tells-as, tells-by}
@@ -84,14 +84,11 @@ module _ {ws : List ℕ} {x : ℕ} {n : Numbering} (h : NumberedAs ws x n) (c : 
   pub step-into : (i j : ℕ) → Step ws (Allowed marks) x i j → StepIn marks n i j
   step-into i j s = record { can = replaceable-in h (s .can); is = rw (replace-in h i j) (s .allowed) }
 
-pub room-of : {ws out : List ℕ} {x : ℕ} {n : Numbering} → privileges ws ≤ length out → IsChoice ws x → NumberedAs ws x n → Room n out
-room-of {ws} {x = x} enough choice h = record {
-  small = numbered-small h;
-  room = λ i j can. rw (replace-in h i j) (omega (arith, enough, edit-below ws (replace x i j) (in-replaceable h choice can)));
-}
-
 pub policy-room : {ws marks : List ℕ} {x : ℕ} {n : Numbering} → Policy ws marks → IsChoice ws x → NumberedAs ws x n → Room n marks
-policy-room pol choice h = room-of (omega (arith, pol .fit .size)) choice h
+policy-room {ws} {x = x} pol choice h = record {
+  small = numbered-small h;
+  room = λ i j can. rw (replace-in h i j) (omega (arith, pol .fit .size, edit-below ws (replace x i j) (in-replaceable h choice can)));
+}
 
 pub policy-readable : {ws marks : List ℕ} {x : ℕ} {n : Numbering} → Policy ws marks → IsChoice ws x → NumberedAs ws x n → Readable n marks
 policy-readable pol choice h = record { room = policy-room pol choice h; legal = λ p l. pol .fit .legal p (omega (arith, pol .fit .size)) }

@@ -2,4 +2,5 @@
 pub mod Marks
 pub mod Reached
 pub mod Renewed
+pub mod Tabulated
 pub mod steps

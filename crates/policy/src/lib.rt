@@ -1,7 +1,7 @@
-// A policy's marks: checked, read into rows of bits, what they let a choice reach and a star renew, and decided marks written from rows.
+// A policy's marks: checked, copied, read into rows of bits, what they let a choice reach and a star renew, and decided marks written from rows.
 // Contracts cite specs/Marks, specs/Reached and specs/Renewed; specs/steps for the parts.
 pub mod marks;
-mod packed;
+pub mod packed;
 pub mod reach;
 pub mod renew;
 pub mod rows;

@@ -1,4 +1,4 @@
-// Checking a run of marks, and a table with its marks. Contracts cite specs/Marks and specs/steps/Checking.
+// Checking a run of marks, and a table with its marks; and copying a run. Contracts cite specs/Marks and specs/steps/Checking.
 ghost use mathlib.Core.Path.{_≡_};
 ghost use Prim.Native.Nat.{ℕ, _≤_, _<_};
 ghost use lib.ListN.{length, getD};
@@ -84,4 +84,16 @@ pub fn check_policy(words: &[u16], marks: &[u8], order: &mut [u8; 256]) -> Check
         return fit;
     }
     table
+}
+
+// Copies the marks, all of them.
+pub fn copy(marks: &[u8], m: &mut [u8])
+    requires { ⌜ length (now m) ≡ length (now marks) ⌝ }
+    ensures { λ _. ⌜ now (m .exit) ≡ now (marks .entry) ⌝ }
+{
+    let mut p = 0;
+    while p < marks.len() {
+        m[p] = marks[p];
+        p += 1;
+    }
 }

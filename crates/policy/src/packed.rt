@@ -30,7 +30,7 @@ fn four(marks: &[u8], at: usize) -> u64
 }
 
 // Eight marks from a place on: the second four stand in the upper halves of the first four's bytes.
-pub(crate) fn eight(marks: &[u8], at: usize) -> u64
+pub fn eight(marks: &[u8], at: usize) -> u64
     requires { ⌜ (at + 8 ≤ length (now marks)) × ((p : ℕ) → p < length (now marks) → Legal (now marks) p) ⌝ }
     ensures { λ r. ⌜ Eight (now (marks .entry)) at r ⌝ }
 {
@@ -38,7 +38,7 @@ pub(crate) fn eight(marks: &[u8], at: usize) -> u64
 }
 
 // The bits at the places of eight marks, side by side.
-fn gathered(eight: u64) -> u64
+pub fn gathered(eight: u64) -> u64
     requires { ⌜ eight < 4294967296 ⌝ }
     ensures { λ r. ⌜ Gathered eight r ⌝ }
 {

@@ -2,9 +2,9 @@
 use Prim.Native.Nat.{ℕ, _+_, _*_, _≤_, _<_}
 use mathlib.Core.Path.{_≡_, refl, sym, ap, _∙_}
 use mathlib.Core.Logic.{_≢_, _⊎_, inl, inr}
-use mathlib.Core.List.{List, [], _++_, append-nil}
+use mathlib.Core.List.{List, _++_}
 use native.Mathlib.Omega.{arith}
-use lib.ListN.{length, getD, take, drop, take-append-drop, drop-of-length-le}
+use lib.ListN.{length, getD, take, drop, take-append-drop}
 use lib.Seq.{ext-getD}
 use Rattle.table.specs.Privilege.{privileges}
 use Rattle.table.specs.Check.{Accepted}
@@ -17,7 +17,7 @@ use Rattle.completion.specs.Answers.{CompleteAnswer, refused as no-policy, shor
 use Rattle.completion.specs.Completions.{Completes, LeastCompletion}
 use Rattle.completion.proofs.Completing.{complete-one, zero-given}
 use Rattle.roles.specs.Answers.{stretch, RoleAnswer, RolesCompleted, NoRoles, table, length-off, short, RolesAnswer, refused, done}
-use Rattle.roles.proofs.Stretches.{parts-one}
+use Rattle.roles.proofs.Stretches.{none-behind, parts-one}
 
 -- a role has one number, and its stretch one content
 pub role-one : {ws marks out x y : List ℕ} {n m : ℕ} → RoleAnswer ws marks out n x → RoleAnswer ws marks out m y → (n ≡ m) × (x ≡ y)
@@ -93,8 +93,7 @@ module _ {ws marks out x : List ℕ} {n : ℕ} (role : RoleAnswer ws marks out n
   pub role-given : length out ≡ privileges ws → n ≡ 0 → LeastCompletion ws marks x
   role-given s z =
       let g = zero-given (role .single) (sym (role .is) ∙ z) in
-      let none : drop (privileges ws) out ≡ [] = drop-of-length-le out {i = privileges ws} (omega arith) in
-      rw (g .is, none, append-nil (g .front)) (g .least)
+      rw (g .is, none-behind (privileges ws) (g .front) out s) (g .least)
 
   -- with its own V marks and its own stretch of V
   pub role-becomes : Accepted ws → length marks ≡ privileges ws → length out ≡ privileges ws → Becomes ws marks out n x

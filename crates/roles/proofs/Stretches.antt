@@ -1,11 +1,11 @@
 -- Stretches of one length, one after another: what is before one, it itself, what is after it. Assumes nothing.
 use Prim.Native.Nat.{ℕ, zero, suc, _+_, _-_, _*_, _≤_, _<_}
 use mathlib.Core.Path.{_≡_, sym, ap, _∙_}
-use mathlib.Core.List.{List, _++_}
+use mathlib.Core.List.{List, [], _++_, append-nil}
 use native.Mathlib.Omega.{arith}
 use native.Mathlib.Nat.{suc-mul, zero-mul, mul-le-mul-right}
 use native.Mathlib.Numerals.{add-one}
-use lib.ListN.{length, take, drop, length-drop}
+use lib.ListN.{length, take, drop, length-drop, drop-of-length-le}
 use lib.Seq.{length-take-le, take-at, drop-at, take-take, take-add}
 use borrow.Rule.Slice.PartMut.{putMid, postOf, take-put, drop-put}
 
@@ -25,6 +25,10 @@ module _ (v : ℕ) where
 
   part-front : (r : ℕ) (l : List ℕ) → r * v ≤ length l → drop (r * v) (take (r * v + v) l) ≡ part r l
   part-front r l h = rw (take-add (r * v) v l) (drop-at (take (r * v) l) (part r l) (r * v) (length-take-le (r * v) l h))
+
+  -- behind a run of one stretch there is nothing
+  pub none-behind : (l m : List ℕ) → length m ≡ v → l ++ drop v m ≡ l
+  none-behind l m s = let none : drop v m ≡ [] = drop-of-length-le m {i = v} (omega arith) in rw (none, append-nil l)
 
   -- runs that are alike before a stretch have the same earlier ones
   pub part-before : (k r : ℕ) (l m : List ℕ) → k < r → r * v ≤ length l → length l ≡ length m → take (r * v) l ≡ take (r * v) m → part k l ≡ part k m

@@ -8,7 +8,7 @@ ghost use Rattle.table.specs.steps.Found.{Tells};
 ghost use Rattle.table.specs.steps.Order.{BottomUp};
 ghost use Rattle.completion.specs.steps.Passes.{HasFirsts};
 ghost use Rattle.roles.specs.Answers.{RoleAnswer, RolesCompleted, RolesAnswer};
-use completion::pass::complete_all;
+use completion::pass::complete_copy;
 use policy::marks::check_marks;
 use table::check_ordered;
 use table::privilege::first_privileges;
@@ -48,7 +48,7 @@ fn complete_role(
     let breach = first_breach(words, marks, order);
     let condition = breach.condition;
     if let Condition::None = condition {
-        complete_all(words, marks, order, firsts, out);
+        complete_copy(words, marks, order, firsts, out);
         return 0;
     }
     16

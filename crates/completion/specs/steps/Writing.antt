@@ -23,9 +23,9 @@ pub record KidsOpened (G : ℕ → Type 0) (kids old new : List ℕ) : Type 0 wh
   pub tells : (z : ℕ) → z < 256 → Tells ((isOpen old z ≡ true) ⊎ ((i : ℕ) × (i < length kids) × (getD kids i 0 ≡ z) × G i)) (isOpen new z)
 
 -- the exchange of a star, where there is one, is allowed if insert and delete are, and the rest is as it was
-pub data ExchangeWritten (marks : List ℕ) (n : Numbering) (old new : List ℕ) : Type 0 where
-  drawn : ExchangeableIn n → BothIn marks n → new ≡ set old (exchangeIn n) 1 → ExchangeWritten marks n old new
-  kept : ¬ (ExchangeableIn n × BothIn marks n) → new ≡ old → ExchangeWritten marks n old new
+pub data ExchangeWritten (n : Numbering) (old new : List ℕ) : Type 0 where
+  drawn : ExchangeableIn n → BothIn old n → new ≡ set old (exchangeIn n) 1 → ExchangeWritten n old new
+  kept : ¬ (ExchangeableIn n × BothIn old n) → new ≡ old → ExchangeWritten n old new
 
 -- the privileges of type x are decided by P, and the rest is as it was
 pub record TypeWritten (ws : List ℕ) (P : ℕ → Type 0) (x : ℕ) (old new : List ℕ) : Type 0 where

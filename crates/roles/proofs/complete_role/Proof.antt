@@ -1,5 +1,5 @@
 -- Its marks are as many as the stretch is long; they are a policy, or one is above 2. Assumes nothing.
-use mathlib.Core.Path.{refl}
+use mathlib.Core.Path.{refl, sym, _∙_}
 use native.Mathlib.Omega.{arith}
 use borrow.Author.Needs.{needs}
 use denote.Ref.{now}
@@ -7,8 +7,10 @@ use Rattle.policy.specs.Marks.{Policy, marks}
 use Rattle.policy.proofs.Policies.{marks-refused, marks-fit}
 use Rattle.verdict.specs.Answers.{refusal, breached, done}
 use Rattle.verdict.proofs.Firsts.{verdict-clean, verdict-broken, no-tag}
-use Rattle.completion.specs.Answers.{refused, none}
-use Rattle.completion.proofs.Completing.{broken-none, filled-given}
+use Rattle.completion.specs.Answers.{refused, none, given}
+use Rattle.completion.proofs.Completing.{broken-none}
+use Rattle.completion.proofs.Least.{completed-least}
+use Rattle.roles.proofs.Stretches.{none-behind}
 use Rattle.roles.proofs.complete_role.Statement.{statement}
 use Rattle.roles.proofs.complete_role.Tie as tie
 
@@ -41,11 +43,11 @@ first-breach-requires c κs = (policy c, c .before .before .before .before .befo
 enum-told : tie.Need-enum-told
 enum-told c = search needs
 
-complete-all-requires : tie.Need-complete-all-requires
-complete-all-requires c κs =
+complete-copy-requires : tie.Need-complete-copy-requires
+complete-copy-requires c κs =
     let fit = c .before .before .before .before in
     let pre = fit .before .before .before .before .before .before .pre in
-    (policy fit, pre .1, pre .2, omega (arith, pre .4))
+    (policy fit, pre .1, pre .2, pre .4 ∙ sym (pre .3))
 
 same-length : tie.Need-same-length
 same-length c = search needs
@@ -56,11 +58,12 @@ returns-2 c =
     let told = filled .before .before in
     let found = told .before .before in
     let fit = found .before in
-    let pre = fit .before .before .before .before .before .before .pre in
+    let start = fit .before .before .before .before .before .before in
     record {
       answer = done 0;
-      single = filled-given (omega (arith, pre .4)) (filled .complete-all .ensures) (policy fit)
-          (verdict-clean _ _ (found .first-breach .ensures) (told .enum-told .given .1)) refl;
+      single = given (policy fit) (omega (arith, start .pre .4))
+          (completed-least (policy fit) (filled .complete-copy .ensures) (verdict-clean _ _ (found .first-breach .ensures) (told .enum-told .given .1))) refl
+          (sym (none-behind _ (filled .complete-copy .last .1 .1 .1 .1 .0) (now (start .args .out)) (start .pre .4)));
       is = refl;
     }
 
@@ -85,7 +88,7 @@ complete-role-spec =
     returns
     first-breach-requires
     enum-told
-    complete-all-requires
+    complete-copy-requires
     same-length
     returns-2
     returns-3)

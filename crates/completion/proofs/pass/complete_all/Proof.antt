@@ -9,20 +9,20 @@ use Rattle.table.specs.Words.{types}
 use Rattle.table.specs.Privilege.{firstPrivilege}
 use Rattle.table.proofs.Facts.{facts}
 use Rattle.table.proofs.Privileges.{first-within}
-use Rattle.completion.proofs.Descent.{Descended, descent-start, descent-told, descent-more, descent-all}
+use Rattle.completion.proofs.Descent.{Descended, descent-start, descent-policy, descent-told, descent-more, descent-all}
 use Rattle.completion.proofs.pass.complete_all.Statement.{statement}
 use Rattle.completion.proofs.pass.complete_all.Tie as tie
 
 abbrev Inv-loop : tie.InvT-loop
-Inv-loop words marks order firsts out₀ opened₀ k₀ out opened k = (k ≤ types words) × Descended words marks order k opened out₀ out
+Inv-loop words order firsts m₀ opened₀ k₀ m opened k = (k ≤ types words) × Descended words m₀ order k opened m
 
 abbrev μ-loop : tie.MeasureT-loop
-μ-loop words marks order firsts out₀ opened₀ k₀ out opened k = k
+μ-loop words order firsts m₀ opened₀ k₀ m opened k = k
 
 -- the loop comes to the place before k, which holds a type
 module _ (c : tie.In-loop Inv-loop μ-loop) where
   abbrev begin : tie.Start Inv-loop μ-loop
-  begin = c .before .before .before .before .before .before
+  begin = c .before .before .before .before .before
 
   place : c .before .loop .k - 1 < types (now (begin .args .words))
   place = omega (arith, c .loop-test .taken, c .before .loop .inv .0)
@@ -43,14 +43,14 @@ module _ (c : tie.In-loop Inv-loop μ-loop) where
   first-low = omega (arith, first-within (now (begin .args .words)) x (omega (arith, type)), facts (begin .pre .0 .accepted) .privileges-few)
 
   -- the types after that place are done
-  stands : Descended (now (begin .args .words)) (now (begin .args .marks)) (now (begin .args .order)) (c .before .loop .k - 1 + 1) (c .before .loop .opened) (now (begin .args .out)) (c .before .loop .out)
+  stands : Descended (now (begin .args .words)) (now (begin .args .m)) (now (begin .args .order)) (c .before .loop .k - 1 + 1) (c .before .loop .opened) (c .before .loop .m)
   stands = let e : c .before .loop .k ≡ c .before .loop .k - 1 + 1 = omega (arith, c .loop-test .taken) in rw e at (c .before .loop .inv .1)
 
 types-requires : tie.Need-types-requires Inv-loop μ-loop
 types-requires c κs = search needs
 
 loop-holds : tie.Need-loop-holds Inv-loop μ-loop
-loop-holds c = (search needs, rw (c .types .ensures .is) (descent-start (c .before .before .before .before .pre .0 .accepted)))
+loop-holds c = (search needs, rw (c .types .ensures .is) (descent-start (c .before .before .before .pre .0 .accepted)))
 
 sub-k : tie.Need-sub-k Inv-loop μ-loop
 sub-k c = search needs
@@ -75,12 +75,11 @@ complete-type-requires c κs =
     let loop = c .before .before .before .before in
     let pre = begin loop .pre in
     record {
-      policy = pre .0;
+      policy = descent-policy (pre .1) (stands loop) (pre .0);
       type = type loop;
       first-is = first-is loop;
       size = loop .before .loop .inv .1 .flags;
       told = descent-told (pre .0 .accepted) (pre .1) (stands loop) (place loop);
-      room = omega (arith, pre .3, loop .before .loop .inv .1 .size);
     }
 
 loop-less : tie.Need-loop-less Inv-loop μ-loop
@@ -99,7 +98,8 @@ returns : tie.Need-returns Inv-loop μ-loop
 returns c =
     let at = c .before in
     let end : at .loop .k ≡ 0 = omega (arith, c .loop-test .left) in
-    descent-all (at .before .before .before .before .before .pre .1) (rw end at (at .loop .inv .1))
+    let pre = at .before .before .before .before .pre in
+    descent-all (pre .0) (pre .1) (rw end at (at .loop .inv .1))
 
 pub complete-all-spec : {M : Type 1} → statement M
 complete-all-spec =

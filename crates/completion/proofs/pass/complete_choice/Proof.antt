@@ -3,22 +3,23 @@ use borrow.Author.Needs.{needs}
 use denote.Ref.{now}
 use Rattle.table.proofs.Facts.{has-children}
 use Rattle.table.specs.steps.Numbering.{NumberedAs}
-use Rattle.completion.proofs.Passing.{choice-kids, choice-own, choice-room, kids-few, kids-small}
+use Rattle.policy.proofs.SquareLaws.{policy-room}
+use Rattle.completion.proofs.Passing.{choice-kids, choice-own, kids-few, kids-small}
 use Rattle.completion.proofs.pass.complete_choice.Statement.{statement}
 use Rattle.completion.proofs.pass.complete_choice.Tie as tie
 
 -- the numbering is that of the choice
-numbered : (c : tie.After-numbers-at) → let a = c .before .before .before .before .args in NumberedAs (now (a .words)) (a .x) (c .numbers-at .result)
+numbered : (c : tie.After-numbers-at) → let a = c .before .before .before .args in NumberedAs (now (a .words)) (a .x) (c .numbers-at .result)
 numbered c = c .numbers-at .ensures
 
 numbers-at-requires : tie.Need-numbers-at-requires
-numbers-at-requires c κs = let visit = c .before .before .before .pre .0 in (visit .policy .accepted, visit .type, visit .first-is)
+numbers-at-requires c κs = let visit = c .before .before .pre .0 in (visit .policy .accepted, visit .type, visit .first-is)
 
 reached-requires : tie.Need-reached-requires
 reached-requires c κs =
     let pre = c .before .before .before .before .pre in
     let visit = pre .0 in
-    (visit .policy, pre .2, numbered c)
+    (visit .policy, pre .2, numbered (c .before))
 
 children-requires : tie.Need-children-requires
 children-requires c κs = let visit = c .before .before .before .before .before .before .pre .0 in has-children (visit .policy .accepted) (visit .type)
@@ -32,9 +33,9 @@ open-cycles-requires c κs =
 
 write-choice-requires : tie.Need-write-choice-requires
 write-choice-requires c κs =
-    let n = c .before .before .before .before .before .before .before in
-    let pre = n .before .before .before .before .pre in
-    choice-room (pre .0) (pre .2) (numbered n)
+    let n = c .before .before .before .before .before .before .before .before in
+    let pre = n .before .before .before .pre in
+    policy-room (pre .0 .policy) (pre .2) (numbered n)
 
 same-length : tie.Need-same-length
 same-length c = search needs
@@ -45,10 +46,11 @@ returns c =
     let opened = written .before .before .before in
     let listed = opened .before .before in
     let square = listed .before .before in
-    let pre = square .before .before .before .before .before .pre in
+    let n = square .before .before in
+    let pre = n .before .before .before .pre in
     record {
       kids = choice-kids (pre .1) (pre .2) (square .reached .ensures) (pre .0 .policy .accepted) (rw (listed .children .ensures) at (opened .open-cycles .ensures));
-      own = choice-own (pre .1) (pre .2) (square .reached .ensures) (numbered (square .before)) (written .write-choice .ensures);
+      own = choice-own (pre .1) (pre .2) (square .reached .ensures) (numbered n) (written .write-choice .ensures);
     }
 
 pub complete-choice-spec : {M : Type 1} → statement M

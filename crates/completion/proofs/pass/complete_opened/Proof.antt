@@ -9,25 +9,25 @@ use Rattle.completion.proofs.pass.complete_opened.Statement.{statement}
 use Rattle.completion.proofs.pass.complete_opened.Tie as tie
 
 children-requires : tie.Need-children-requires
-children-requires c κs = let visit = c .before .before .before .before .pre .0 in has-children (visit .policy .accepted) (omega (arith, visit .type))
+children-requires c κs = let visit = c .before .before .before .pre .0 in has-children (visit .policy .accepted) (omega (arith, visit .type))
 
 open-all-requires : tie.Need-open-all-requires
 open-all-requires c κs =
-    let visit = c .before .before .before .before .before .pre .0 in
+    let visit = c .before .before .before .before .pre .0 in
     (visit .size, kids-small (visit .policy .accepted) (c .children .ensures) (omega (arith, visit .type)))
 
 privileges-at-requires : tie.Need-privileges-at-requires
-privileges-at-requires c κs = let visit = c .before .before .before .before .before .before .before .pre .0 in has-record (visit .policy .accepted) (visit .type)
+privileges-at-requires c κs = let visit = c .before .before .before .before .before .before .pre .0 in has-record (visit .policy .accepted) (visit .type)
 
 add-write-range : tie.Need-add-write-range
 add-write-range c =
-    let visit = c .before .before .before .before .before .before .before .before .pre .0 in
+    let visit = c .before .before .before .before .before .before .before .pre .0 in
     omega (arith, visit-fits visit (c .privileges-at .ensures .is))
 
 write-range-requires : tie.Need-write-range-requires
 write-range-requires c κs =
-    let visit = c .before .before .before .before .before .before .before .before .pre .0 in
-    omega (arith, visit-end visit (c .privileges-at .ensures .is), visit .room)
+    let visit = c .before .before .before .before .before .before .before .pre .0 in
+    visit-end visit (c .privileges-at .ensures .is)
 
 same-length : tie.Need-same-length
 same-length c = search needs
@@ -36,7 +36,7 @@ returns : tie.Need-returns
 returns c =
     let written = c .before .before in
     let opened = written .before .before .before in
-    let pre = opened .before .before .before .before .before .before .pre in
+    let pre = opened .before .before .before .before .before .pre in
     record {
       kids = kids-as (λ i l u. inl (pre .1)) (λ i l g. tt) (rw (opened .before .children .ensures) at (opened .open-all .ensures));
       own = opened-own (pre .0) (pre .1) (written .before .privileges-at .ensures .is) (written .write-range .ensures);

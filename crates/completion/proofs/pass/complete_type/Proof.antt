@@ -21,15 +21,15 @@ use Rattle.completion.proofs.pass.complete_type.Tie as tie
 
 -- the kind of the type is that of the rule that was read
 abbrev kindHere : tie.After-rule-at → ℕ
-kindHere c = let a = c .before .before .before .before .before .before .args in kindIn (ruleAt (now (a .words)) (a .x))
+kindHere c = let a = c .before .before .before .before .before .args in kindIn (ruleAt (now (a .words)) (a .x))
 
 kind : (c : tie.After-rule-at) {r : Rule} → c .rule-at .result ≡ r → kindHere c ≡ kindIn r
 kind c e = ap kindIn (sym (c .rule-at .ensures .is) ∙ e)
 
 -- a type whose flag is not 1 is not opened
-shut : (c : tie.Else1) → let a = c .before .before .before .before .before .args in ¬ Opened (now (a .words)) (Allowed (now (a .marks))) (a .x)
+shut : (c : tie.Else1) → let a = c .before .before .before .before .args in ¬ Opened (now (a .words)) (Allowed (now (a .m))) (a .x)
 shut c =
-    let start = c .before .before .before .before .before in
+    let start = c .before .before .before .before in
     told-no (isOpen (now (start .args .opened)) (start .args .x)) (start .pre .told) (ne-eqb _ 1 (c .if1 .left))
 
 -- the last arm's rule is neither a star nor a choice
@@ -49,11 +49,11 @@ plain c = go (c .before .rule-at .result) refl
     go (Star f n) e = absurd (no-tag {t = 4} (omega arith) (rw e at (c .match .keys3)))
 
 element-copy-out-if1 : tie.Need-element-copy-out-if1
-element-copy-out-if1 c = let start = c .before .before .before in omega (arith, start .pre .type, facts (start .pre .policy .accepted) .few)
+element-copy-out-if1 c = let start = c .before .before in omega (arith, start .pre .type, facts (start .pre .policy .accepted) .few)
 
 complete-opened-requires : tie.Need-complete-opened-requires
 complete-opened-requires c κs =
-    let start = c .before .before .before .before .before .before .before in
+    let start = c .before .before .before .before .before .before in
     (start .pre, told-yes (isOpen (now (start .args .opened)) (start .args .x)) (start .pre .told) (eq-eqb _ 1 (c .before .before .if1 .taken)))
 
 same-length : tie.Need-same-length
@@ -63,7 +63,7 @@ returns : tie.Need-returns
 returns c = search needs
 
 rule-at-requires : tie.Need-rule-at-requires
-rule-at-requires c κs = let visit = c .before .before .before .before .before .pre in has-record (visit .policy .accepted) (visit .type)
+rule-at-requires c κs = let visit = c .before .before .before .before .pre in has-record (visit .policy .accepted) (visit .type)
 
 enum-told : tie.Need-enum-told
 enum-told c = search needs
@@ -72,7 +72,7 @@ complete-choice-requires : tie.Need-complete-choice-requires
 complete-choice-requires c κs =
     let told = c .before .before in
     let read = told .before .before in
-    let start = read .before .before .before .before .before .before in
+    let start = read .before .before .before .before .before in
     (start .pre, shut (read .before), record { type = start .pre .type; kind-is = kind read (told .enum-told .given .1) })
 
 enum-told-2 : tie.Need-enum-told-2
@@ -82,21 +82,21 @@ complete-star-requires : tie.Need-complete-star-requires
 complete-star-requires c κs =
     let told = c .before .before in
     let read = told .before .before in
-    let start = read .before .before .before .before .before .before in
+    let start = read .before .before .before .before .before in
     (start .pre, shut (read .before), record { type = start .pre .type; kind-is = kind read (told .enum-told2 .given .1) })
 
 privileges-at-requires : tie.Need-privileges-at-requires
-privileges-at-requires c κs = let visit = c .before .before .before .before .before .before .before .before .pre in has-record (visit .policy .accepted) (visit .type)
+privileges-at-requires c κs = let visit = c .before .before .before .before .before .before .before .pre in has-record (visit .policy .accepted) (visit .type)
 
 add-write-range : tie.Need-add-write-range
 add-write-range c =
-    let start = c .before .before .before .before .before .before .before .before .before in
+    let start = c .before .before .before .before .before .before .before .before in
     omega (arith, visit-fits (start .pre) (c .privileges-at .ensures .is))
 
 write-range-requires : tie.Need-write-range-requires
 write-range-requires c κs =
-    let start = c .before .before .before .before .before .before .before .before .before in
-    omega (arith, visit-end (start .pre) (c .privileges-at .ensures .is), start .pre .room)
+    let start = c .before .before .before .before .before .before .before .before in
+    visit-end (start .pre) (c .privileges-at .ensures .is)
 
 same-length-2 : tie.Need-same-length-2
 same-length-2 c = search needs
@@ -118,7 +118,7 @@ returns-4 c =
     let written = c .before .before in
     let arm = written .before .before .before in
     let read = arm .before in
-    let start = read .before .before .before .before .before .before in
+    let start = read .before .before .before .before .before in
     let neither = plain arm in
     record {
       kids = kids-none (start .pre .size) (λ i l. plain-passes (shut (read .before)) (neither .0) (neither .1));

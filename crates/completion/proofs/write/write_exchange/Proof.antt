@@ -18,20 +18,23 @@ both-allowed-requires c κs = search needs
 exchange-requires : tie.Need-exchange-requires
 exchange-requires c κs = search needs
 
-slice-write-out : tie.Need-slice-write-out
-slice-write-out c =
-    let asked = c .before .before .before .before .is-exchangeable in
-    rw (c .exchange .ensures) (c .before .before .before .before .before .before .before .pre .1 (told-yes (asked .result) (asked .ensures) (c .before .before .before .if1 .taken)))
+slice-write-m : tie.Need-slice-write-m
+slice-write-m c =
+    let asked = c .before .before .before .before .before .is-exchangeable in
+    rw (c .exchange .ensures) (c .before .before .before .before .before .before .before .pre .1 (told-yes (asked .result) (asked .ensures) (c .before .before .before .before .if1 .taken)))
 
 same-length : tie.Need-same-length
 same-length c = search needs
 
 returns : tie.Need-returns
 returns c =
-    let can = c .before .before .before .before .is-exchangeable in
+    let can = c .before .before .before .before .before .is-exchangeable in
     let both = c .before .before .both-allowed in
-    drawn (told-yes (can .result) (can .ensures) (c .before .before .before .if1 .taken)) (told-yes (both .result) (both .ensures) (c .before .if2 .taken))
-    (ap (λ (p : ℕ). set (now (c .before .before .before .before .before .before .before .args .out)) p 1) (c .exchange .ensures))
+    drawn (told-yes (can .result) (can .ensures) (c .before .before .before .before .if1 .taken)) (told-yes (both .result) (both .ensures) (c .before .if2 .taken))
+    (ap (λ (p : ℕ). set (now (c .before .before .before .before .before .before .before .args .m)) p 1) (c .exchange .ensures))
+
+same-length-2 : tie.Need-same-length-2
+same-length-2 c = search needs
 
 returns-2 : tie.Need-returns-2
 returns-2 c = let both = c .before .both-allowed in kept (λ h. told-no (both .result) (both .ensures) (c .if2 .left) (h .1)) refl
@@ -46,8 +49,9 @@ write-exchange-spec =
     is-exchangeable-requires
     both-allowed-requires
     exchange-requires
-    slice-write-out
+    slice-write-m
     same-length
     returns
+    same-length-2
     returns-2
     returns-3)

@@ -1,11 +1,12 @@
 -- The loop has decided the marks up to p. Assumes nothing.
 use Prim.Native.Nat.{_-_, _≤_, _<_}
 use mathlib.Core.Path.{_≡_, refl}
-use mathlib.Core.Logic.{_⊎_, inl, ⊎-elim}
+use mathlib.Core.Logic.{_⊎_, inl, inr, ⊎-elim}
 use mathlib.Core.Bool.{true}
 use native.Mathlib.Omega.{arith}
 use borrow.Author.Needs.{needs}
-use lib.ListN.{length}
+use denote.Ref.{now}
+use lib.ListN.{length, getD}
 use Rattle.policy.specs.Marks.{Allowed}
 use Rattle.policy.specs.steps.Writing.{allow, RangeWritten}
 use Rattle.policy.proofs.Writings.{decide-mark, range-start, range-more, range-end}
@@ -13,29 +14,32 @@ use Rattle.completion.proofs.write.write_range.Statement.{statement}
 use Rattle.completion.proofs.write.write_range.Tie as tie
 
 abbrev Inv-loop : tie.InvT-loop
-Inv-loop out₀ marks all from until p₀ out p = RangeWritten (λ q. (all ≡ true) ⊎ Allowed marks q) from p out₀ out × (from ≤ p) × (from ≤ until → p ≤ until) × (until < from → p ≡ from)
+Inv-loop m₀ all from until p₀ m p = RangeWritten (λ q. (all ≡ true) ⊎ Allowed m₀ q) from p m₀ m × (from ≤ p) × (from ≤ until → p ≤ until) × (until < from → p ≡ from)
 
 abbrev μ-loop : tie.MeasureT-loop
-μ-loop out₀ marks all from until p₀ out p = until - p
+μ-loop m₀ all from until p₀ m p = until - p
 
--- the mark at p is one of the result's
-room : (c : tie.In-loop Inv-loop μ-loop) → c .before .loop .p < length (c .before .loop .out)
+-- the mark at p is one of the run's, and as it was
+room : (c : tie.In-loop Inv-loop μ-loop) → c .before .loop .p < length (c .before .loop .m)
 room c = omega (arith, c .before .loop .inv .0 .size)
+
+kept : (c : tie.In-loop Inv-loop μ-loop) → getD (c .before .loop .m) (c .before .loop .p) 0 ≡ getD (now (c .before .before .before .args .m)) (c .before .loop .p) 0
+kept c = c .before .loop .inv .0 .rest (c .before .loop .p) (inr (omega arith))
 
 loop-holds : tie.Need-loop-holds Inv-loop μ-loop
 loop-holds c = (range-start, search needs, λ l. l, λ l. refl)
 
-slice-write-out : tie.Need-slice-write-out Inv-loop μ-loop
-slice-write-out c = room (c .before)
+slice-write-m : tie.Need-slice-write-m Inv-loop μ-loop
+slice-write-m c = room (c .before)
 
-mark-at-requires : tie.Need-mark-at-requires Inv-loop μ-loop
-mark-at-requires c κs = search needs
+slice-read-decided : tie.Need-slice-read-decided Inv-loop μ-loop
+slice-read-decided c = room (c .before .before)
 
 decided-requires : tie.Need-decided-requires Inv-loop μ-loop
 decided-requires c κs = search needs
 
-slice-write-out-2 : tie.Need-slice-write-out-2 Inv-loop μ-loop
-slice-write-out-2 c = room (c .before .before .before)
+slice-write-m-2 : tie.Need-slice-write-m-2 Inv-loop μ-loop
+slice-write-m-2 c = room (c .before .before .before)
 
 add-p : tie.Need-add-p Inv-loop μ-loop
 add-p c = search needs
@@ -49,7 +53,7 @@ loop-again c =
     let s = at .before .loop .inv in
     let l = at .loop-test .taken in (
       ⊎-elim (λ w. rw (w .1) (range-more (s .0) (s .1) (room at) (allow (inl (w .0 .taken)) refl)))
-          (λ w. rw (w .3) (range-more (s .0) (s .1) (room at) (rw (w .2 .ensures, w .1 .ensures) (decide-mark _ (w .0 .left)))))
+          (λ w. rw (w .3) (range-more (s .0) (s .1) (room at) (rw (w .2 .ensures, kept at) (decide-mark _ (w .0 .left)))))
           (c .if1 .came),
       omega arith,
       λ h. omega arith,
@@ -71,10 +75,10 @@ write-range-spec =
     Inv-loop
     μ-loop
     loop-holds
-    slice-write-out
-    mark-at-requires
+    slice-write-m
+    slice-read-decided
     decided-requires
-    slice-write-out-2
+    slice-write-m-2
     add-p
     loop-less
     loop-again

@@ -8,8 +8,8 @@ use mathlib.Core.Path.{_≡_, refl, _∙_}
 use denote.Ref.{now}
 use native.Mathlib.Omega.{arith}
 use Prim.Native.Nat.{ℕ, _-_, _<_}
-use Rattle.mending.proofs.mend_types.copy.Statement.{statement}
-use Rattle.mending.proofs.mend_types.copy.Tie as tie
+use Rattle.policy.proofs.marks.copy.Statement.{statement}
+use Rattle.policy.proofs.marks.copy.Tie as tie
 
 abbrev Inv-loop : tie.InvT-loop
 Inv-loop marks m₀ p₀ m p = (length m ≡ length marks) × ((j : ℕ) → j < p → getD m j 0 ≡ getD marks j 0)
