@@ -1,9 +1,10 @@
-// Measures the seven calls of the proved library, all but `read_dtd` against the second program and `fast`. bench/run builds and runs it; the modes:
+// Measures the eleven calls of the proved library, all but `read_dtd` against the second program and `fast`. bench/run builds and runs it; the modes:
 //   check               reads a stream of cases (second/README.md) and compares all makes
 //   time                nanoseconds a call
 //   growth              the same for tables that double
 //   stack               bytes of stack
 //   roles               nanoseconds a role of complete_roles, and a single call on each role
+//   maps                nanoseconds a call over bit maps, and on the marks that they spell
 //   texts               nanoseconds a call of read_dtd, a line for each text
 //   lengths             nanoseconds a byte of texts that double
 //   documents FOLDER    writes a document for each text, for another parser
@@ -17,6 +18,7 @@ mod calls;
 mod dtd;
 mod fast;
 mod inputs;
+mod maps;
 mod plain;
 #[path = "../bindings/rust/src/border.rs"]
 mod proved;
@@ -64,8 +66,8 @@ fn compare_on(case: &Case, call: Call, at: &str) {
 fn check() {
     let mut stream = Vec::new();
     std::io::stdin().read_to_end(&mut stream).unwrap_or_else(|_| fail("cannot read the input"));
-    let (cases, texts, shows) = plain::cases_of(&stream);
-    for (k, case) in cases.iter().enumerate() {
+    let plain::Cases { policies, texts, shows, maps } = plain::cases_of(&stream);
+    for (k, case) in policies.iter().enumerate() {
         CALLS.iter().for_each(|&call| compare_on(case, call, &format!("case {}", k)));
     }
     let mut own = 0;
@@ -75,7 +77,9 @@ fn check() {
             own += input.cases.len();
         }
     }
-    println!("equal: {} cases with five calls each, and {} measured calls", cases.len(), own);
+    println!("equal: {} policies with five calls each, and {} measured calls", policies.len(), own);
+    let own = maps::check(&maps);
+    println!("equal: {} policies as bit maps with four calls each, and {} measured calls", maps.len(), own);
     println!("equal: {} shows of several roles, and {} measured ones", shows.len(), roles::check(&shows));
     println!("equal: {} DTD texts, and {} measured ones", texts.len(), dtd::check(&texts));
 }
@@ -115,12 +119,14 @@ fn time() {
         }
     }
     roles::time();
+    maps::time();
 }
 
 fn growth() {
     println!("ns a call, proved and fast, least of the rounds\n");
-    println!("| Table | {} |", CALLS.map(Call::name).join(" | "));
-    println!("|---|---|---|---|---|---|");
+    let names: Vec<&str> = CALLS.map(Call::name).into_iter().chain(maps::CALLS.map(maps::name)).collect();
+    println!("| Table | {} |", names.join(" | "));
+    println!("|---|{}", "---|".repeat(names.len()));
     for size in 0..doubling(Call::Mend).len() {
         let mut line = String::new();
         for call in CALLS {
@@ -128,6 +134,7 @@ fn growth() {
             let found = measure(&MAKES[..2], call, input, Duration::from_millis(100));
             line += &format!(" {:.0}, {:.0} |", found[0].0, found[1].0);
         }
+        maps::CALLS.iter().for_each(|&call| line += &maps::growth(call, size));
         println!("| {} |{}", doubling(Call::Mend)[size].name, line);
     }
 }
@@ -160,6 +167,10 @@ fn stacks() {
         println!("| {} | {} |", call.name(), found.join(" | "));
     }
     println!("| {} | {} |", roles::NAME, MAKES.each_ref().map(roles::most_stack).join(" | "));
+    for call in maps::CALLS {
+        let found = MAKES.each_ref().map(|make| maps::most_stack(make, call));
+        println!("| {} | {} |", maps::name(call), found.join(" | "));
+    }
     println!("| {} | {} |", dtd::NAME, MAKES.each_ref().map(dtd::most_stack).join(" | "));
 }
 
@@ -169,6 +180,7 @@ fn list() {
             println!("{} {} {}", call.name(), input.name, input.cases.len());
         }
     }
+    maps::list();
     dtd::list();
 }
 
@@ -206,6 +218,7 @@ fn main() {
         ["growth"] => growth(),
         ["stack"] => stacks(),
         ["roles"] => roles::time_roles(),
+        ["maps"] => maps::time_maps(),
         ["texts"] => dtd::time(),
         ["lengths"] => dtd::growth(),
         ["documents", folder] => dtd::documents(folder),
@@ -215,9 +228,13 @@ fn main() {
         ["count", make, dtd::NAME, text, times] => dtd::count(make, text, times),
         ["count", make, roles::NAME, show, times] => roles::count(make, show, times),
         ["count", make, roles::EACH, show, times] => roles::count_each(make, show, times),
-        ["count", make, call, input, times] => count(make, call, input, times),
+        ["count", make, call, input, times] => match maps::call_of(call) {
+            Some(call) => maps::count(make, call, input, times),
+            None => count(make, call, input, times),
+        },
         _ => fail(
-            "modes: check | time | growth | stack | roles | texts | lengths | documents FOLDER | list | shows | tables | count MAKE CALL INPUT TIMES",
+            "modes: check | time | growth | stack | roles | maps | texts | lengths | documents FOLDER | list | shows | tables | \
+             count MAKE CALL INPUT TIMES",
         ),
     }
 }

@@ -1,5 +1,5 @@
-// The calls, of three makes: proved, fast and second. Five take a table and a policy, one a table and the policies of all roles; the seventh reads
-// DTD text, and has no fast make.
+// The calls, of three makes: proved, fast and second. Five take a table and a policy, four of these also a policy as two bit maps, and one a table
+// and the policies of all roles; the last reads DTD text, and has no fast make.
 
 use crate::{fast, plain, proved};
 
@@ -13,6 +13,9 @@ impl Outcome {
 }
 
 pub type CompleteRoles = fn(&[u16], &[u8], &mut [u16], &mut [u8]) -> Outcome;
+pub type JudgeMaps = fn(&[u16], &[u8], &[u8]) -> Outcome;
+pub type WriteMaps = fn(&[u16], &[u8], &[u8], &mut [u8], &mut [u8]) -> Outcome;
+pub type JudgeMendMaps = fn(&[u16], &[u8], &[u8], &[u8], &[u8]) -> Outcome;
 pub type ReadDtd = fn(&[u8], &mut [u16]) -> Outcome;
 
 pub struct Make {
@@ -23,6 +26,10 @@ pub struct Make {
     pub complete_roles: CompleteRoles,
     pub mend: fn(&[u16], &[u8], &mut [u8]) -> Outcome,
     pub judge_mend: fn(&[u16], &[u8], &[u8]) -> Outcome,
+    pub judge_maps: JudgeMaps,
+    pub complete_maps: WriteMaps,
+    pub mend_maps: WriteMaps,
+    pub judge_mend_maps: JudgeMendMaps,
     pub read_dtd: Option<ReadDtd>,
 }
 
@@ -35,6 +42,10 @@ pub const MAKES: [Make; 3] = [
         complete_roles: proved::complete_roles,
         mend: proved::mend,
         judge_mend: proved::judge_mend,
+        judge_maps: proved::judge_maps,
+        complete_maps: proved::complete_maps,
+        mend_maps: proved::mend_maps,
+        judge_mend_maps: proved::judge_mend_maps,
         read_dtd: Some(proved::read_dtd),
     },
     Make {
@@ -45,6 +56,10 @@ pub const MAKES: [Make; 3] = [
         complete_roles: fast::complete_roles,
         mend: fast::mend,
         judge_mend: fast::judge_mend,
+        judge_maps: fast::judge_maps,
+        complete_maps: fast::complete_maps,
+        mend_maps: fast::mend_maps,
+        judge_mend_maps: fast::judge_mend_maps,
         read_dtd: None,
     },
     Make {
@@ -55,6 +70,10 @@ pub const MAKES: [Make; 3] = [
         complete_roles: plain::complete_roles,
         mend: plain::mend,
         judge_mend: plain::judge_mend,
+        judge_maps: plain::judge_maps,
+        complete_maps: plain::complete_maps,
+        mend_maps: plain::mend_maps,
+        judge_mend_maps: plain::judge_mend_maps,
         read_dtd: Some(plain::read_dtd),
     },
 ];

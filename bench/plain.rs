@@ -3,8 +3,9 @@
 use crate::calls::{Case, Outcome};
 use second::answers::{answer, Answer, Breach};
 use second::dtd_case::DtdCase;
+use second::maps_case::MapsCase;
 use second::roles_case::RolesCase;
-use second::{cases, completing, conditions, dtd, mending, roles, table};
+use second::{cases, completing, conditions, dtd, maps, mending, roles, table};
 
 fn outcome_of(outcome: second::answers::Outcome) -> Outcome {
     let Answer { number, place, count, breach } = answer(outcome);
@@ -37,19 +38,62 @@ pub fn judge_mend(words: &[u16], marks: &[u8], proposed: &[u8]) -> Outcome {
     outcome_of(mending::judge_mend(words, marks, proposed))
 }
 
+pub fn judge_maps(words: &[u16], allowed: &[u8], forbidden: &[u8]) -> Outcome {
+    outcome_of(maps::judge_maps(words, allowed, forbidden))
+}
+
+pub fn complete_maps(
+    words: &[u16],
+    allowed: &[u8],
+    forbidden: &[u8],
+    out_allowed: &mut [u8],
+    out_forbidden: &mut [u8],
+) -> Outcome {
+    outcome_of(maps::complete_maps(words, allowed, forbidden, out_allowed, out_forbidden))
+}
+
+pub fn mend_maps(
+    words: &[u16],
+    allowed: &[u8],
+    forbidden: &[u8],
+    out_allowed: &mut [u8],
+    out_forbidden: &mut [u8],
+) -> Outcome {
+    outcome_of(maps::mend_maps(words, allowed, forbidden, out_allowed, out_forbidden))
+}
+
+pub fn judge_mend_maps(
+    words: &[u16],
+    allowed: &[u8],
+    forbidden: &[u8],
+    proposed_allowed: &[u8],
+    proposed_forbidden: &[u8],
+) -> Outcome {
+    outcome_of(maps::judge_mend_maps(words, allowed, forbidden, proposed_allowed, proposed_forbidden))
+}
+
 pub fn read_dtd(text: &[u8], out: &mut [u16]) -> Outcome {
     outcome_of(dtd::read_dtd(text, out))
 }
 
-/// The policies, the DTD texts and the calls on roles of a stream of cases (second/README.md has its form).
-pub fn cases_of(stream: &[u8]) -> (Vec<Case>, Vec<DtdCase>, Vec<RolesCase>) {
-    let (mut policies, mut texts, mut roles) = (Vec::new(), Vec::new(), Vec::new());
+/// The cases of a stream (second/README.md has its form) by their kind.
+#[derive(Default)]
+pub struct Cases {
+    pub policies: Vec<Case>,
+    pub texts: Vec<DtdCase>,
+    pub shows: Vec<RolesCase>,
+    pub maps: Vec<MapsCase>,
+}
+
+pub fn cases_of(stream: &[u8]) -> Cases {
+    let mut all = Cases::default();
     for case in cases::read_cases(stream) {
         match case {
-            cases::Case::Policy(case) => policies.push(case),
-            cases::Case::Dtd(case) => texts.push(case),
-            cases::Case::Roles(case) => roles.push(case),
+            cases::Case::Policy(case) => all.policies.push(case),
+            cases::Case::Dtd(case) => all.texts.push(case),
+            cases::Case::Roles(case) => all.shows.push(case),
+            cases::Case::Maps(case) => all.maps.push(case),
         }
     }
-    (policies, texts, roles)
+    all
 }

@@ -1,14 +1,15 @@
 /*
  * Finnedscarf: checks a schema table, reads one from DTD text, judges a policy of edits on it, completes the policy, or those of all roles of
- * a show at once, mends it, and judges a mend that somebody proposes. The seven calls are proved to answer as said here for every input;
- * nothing checks this header against them but tests/store.
+ * a show at once, mends it, and judges a mend that somebody proposes. What is done to one policy is done as well to one that is kept as two bit
+ * maps. The eleven calls are proved to answer as said here for every input; nothing checks this header against them but tests/store.
  *
  * Build the library with `rt staticlib store` and link target/staticlib/libstore.a (x86-64 Linux). For C99 or C++11, or later.
  *
  * What is lent
  *   Each run is a pointer to its first item and the number of its items. With length 0 the pointer may be any, also NULL; else it is never
- *   NULL. `out` and `numbers` overlap no other run of the call. Nothing else may write to a lent run during the call. `words`, `text`, `marks`
- *   and `proposed` are only read. A call keeps nothing: no pointer, no state, no memory that must be freed.
+ *   NULL. What a call may write, which is `numbers`, `out`, `out_allowed` and `out_forbidden`, overlaps no other run of the call; all other runs
+ *   are only read. Nothing else may write to a lent run during the call. A call keeps nothing: no pointer, no state, no memory that must be
+ *   freed.
  *
  * The table
  *   A run of 16-bit words: 8 words of header, three words for each of the E types, then the C entries of the child list.
@@ -39,6 +40,9 @@
  *
  * The policy
  *   V marks, one byte each, as below.
+ *   Or two bit maps, of allowed and of forbidden privileges, each of V / 8 bytes, rounded up: 512 at most. In both, privilege p has bit p % 8 of
+ *   byte p / 8, and bit 0 is the lowest. A privilege is allowed if its bit is set in the allowed map, forbidden if it is set in the forbidden
+ *   map, and unset if it is set in neither; it is never set in both. The spare bits, those of the last byte behind the V privileges, are 0.
  */
 #ifndef FINNEDSCARF_H
 #define FINNEDSCARF_H
@@ -60,7 +64,7 @@ enum {
 /*
  * The number of an answer. Checks are made in the order of these lines, 20 to 22 before 1, and 19 between 7 and 8; but of 20 and 21 the earlier
  * byte decides, then the lower number. The place is the lowest at which the check fails, 0 where none is named. Where all roles are completed at
- * once, 11 and 16 are numbers of a role and not of the call: they come after 12.
+ * once, 11 and 16 are numbers of a role and not of the call: they come after 12. Over maps 23 and 24 stand in place of 11.
  */
 enum {
     FINNEDSCARF_DONE = 0,             /* done; place: V for a table that is checked or read, else 0 */
@@ -77,12 +81,16 @@ enum {
     FINNEDSCARF_ON_CYCLE = 19,        /* a type on a cycle; place: type */
     FINNEDSCARF_ORPHAN = 8,           /* a type that is not reached from the root; place: type */
     FINNEDSCARF_TOTAL = 9,            /* V is over 4096 or word 7 is not V */
-    FINNEDSCARF_MARKS_LENGTH = 10,    /* marks not V long; of all roles: not V for each */
+    FINNEDSCARF_MARKS_LENGTH = 10,    /* marks not V long; of all roles: not V for each; a map not V / 8 bytes long, rounded up */
     FINNEDSCARF_MARK = 11,            /* a mark above 2; place: privilege */
-    FINNEDSCARF_SHORT = 12,           /* result shorter than V, of all roles than V for each, or than the table that is read */
-    FINNEDSCARF_PROPOSED_LENGTH = 13, /* proposed marks not V long */
-    FINNEDSCARF_PROPOSED_MARK = 14,   /* a proposed mark above 2; place: privilege */
-    FINNEDSCARF_CHANGE = 15,          /* a change other than from 1 to 2; place: privilege */
+    FINNEDSCARF_BOTH = 23,            /* a privilege whose bit is set in both maps; place: privilege */
+    FINNEDSCARF_SPARE = 24,           /* a spare bit set in either map */
+    FINNEDSCARF_SHORT = 12,           /* result shorter than V, of all roles than V for each, or than the table that is read; a result map shorter
+                                         than V / 8 bytes, rounded up */
+    FINNEDSCARF_PROPOSED_LENGTH = 13, /* proposed marks not V long; a proposed map not V / 8 bytes long, rounded up */
+    FINNEDSCARF_PROPOSED_MARK = 14,   /* a proposed mark above 2, or a privilege whose bit is set in both proposed maps; place: privilege; else
+                                         a spare bit set in either of these; place: 0 */
+    FINNEDSCARF_CHANGE = 15,          /* a change other than from allowed to forbidden; place: privilege */
     FINNEDSCARF_BREACH = 16           /* a breach, which is told, but not of a role; completing: in the policy; judging a mend: in the proposed one */
 };
 
@@ -167,6 +175,43 @@ finnedscarf_outcome finnedscarf_judge_mend(const uint16_t *words, size_t words_l
                                            const uint8_t *proposed, size_t proposed_length);
 
 /*
+ * The same for a policy that is kept as two bit maps, `allowed` and `forbidden`: each call answers what the call on marks answers on those that
+ * the maps spell. What is wrong with the maps themselves is told otherwise: 10 if either is not V / 8 bytes long, rounded up, then 23 with the
+ * lowest privilege whose bit is set in both, then 24 if a spare bit is set in either. A table's numbers come before these.
+ */
+
+/* Judges a policy, as finnedscarf_judge_policy does: 0 with the first breach, zeros if it is clean, or 1 to 10, 19, 23 or 24. */
+finnedscarf_outcome finnedscarf_judge_maps(const uint16_t *words, size_t words_length, const uint8_t *allowed, size_t allowed_length,
+                                           const uint8_t *forbidden, size_t forbidden_length);
+
+/*
+ * Completes a policy, as finnedscarf_complete does: 0 with the two maps of the completed policy in the first V / 8 bytes, rounded up, of
+ * `out_allowed` and of `out_forbidden`, or 1 to 10, 12 if either is shorter than that, 16, 19, 23 or 24. Spare bits are written as 0. A refusal
+ * leaves both results as they were; else their bytes behind the maps are kept.
+ */
+finnedscarf_outcome finnedscarf_complete_maps(const uint16_t *words, size_t words_length, const uint8_t *allowed, size_t allowed_length,
+                                              const uint8_t *forbidden, size_t forbidden_length, uint8_t *out_allowed,
+                                              size_t out_allowed_length, uint8_t *out_forbidden, size_t out_forbidden_length);
+
+/*
+ * Mends a policy, by the rule and with the `count` of finnedscarf_mend: 0 with the two maps of the mended policy in `out_allowed` and
+ * `out_forbidden`, which are written or kept as in completing, or 1 to 10, 12, 19, 23 or 24.
+ */
+finnedscarf_outcome finnedscarf_mend_maps(const uint16_t *words, size_t words_length, const uint8_t *allowed, size_t allowed_length,
+                                          const uint8_t *forbidden, size_t forbidden_length, uint8_t *out_allowed,
+                                          size_t out_allowed_length, uint8_t *out_forbidden, size_t out_forbidden_length);
+
+/*
+ * Judges a mend that somebody proposes as two maps, as finnedscarf_judge_mend does: 0 with the number of changed privileges as `count`, or 1 to
+ * 10, 13 to 16, 19, 23 or 24. Of the proposed pair, 13 is a wrong length of either map, and 14 has the lowest privilege whose bit is set in
+ * both as its place, or else, for a spare bit set in either, 0.
+ */
+finnedscarf_outcome finnedscarf_judge_mend_maps(const uint16_t *words, size_t words_length, const uint8_t *allowed, size_t allowed_length,
+                                                const uint8_t *forbidden, size_t forbidden_length, const uint8_t *proposed_allowed,
+                                                size_t proposed_allowed_length, const uint8_t *proposed_forbidden,
+                                                size_t proposed_forbidden_length);
+
+/*
  * The library itself never gets NULL, not even with length 0. So the names above reach the functions below, in a call and where an
  * address is taken: each makes the exported call of its name, and lends the address of an item of its own for an empty run.
  */
@@ -227,6 +272,52 @@ static inline finnedscarf_outcome finnedscarf_judge_mend_lent(const uint16_t *wo
     return finnedscarf_judge_mend(FINNEDSCARF_LENT(words, no_word), FINNEDSCARF_LENT(marks, no_byte), FINNEDSCARF_LENT(proposed, no_byte));
 }
 
+static inline finnedscarf_outcome finnedscarf_judge_maps_lent(const uint16_t *words, size_t words_length, const uint8_t *allowed,
+                                                              size_t allowed_length, const uint8_t *forbidden, size_t forbidden_length)
+{
+    uint16_t no_word = 0;
+    uint8_t no_byte = 0;
+    return finnedscarf_judge_maps(FINNEDSCARF_LENT(words, no_word), FINNEDSCARF_LENT(allowed, no_byte),
+                                  FINNEDSCARF_LENT(forbidden, no_byte));
+}
+
+static inline finnedscarf_outcome finnedscarf_complete_maps_lent(const uint16_t *words, size_t words_length, const uint8_t *allowed,
+                                                                 size_t allowed_length, const uint8_t *forbidden,
+                                                                 size_t forbidden_length, uint8_t *out_allowed, size_t out_allowed_length,
+                                                                 uint8_t *out_forbidden, size_t out_forbidden_length)
+{
+    uint16_t no_word = 0;
+    uint8_t no_byte = 0;
+    return finnedscarf_complete_maps(FINNEDSCARF_LENT(words, no_word), FINNEDSCARF_LENT(allowed, no_byte),
+                                     FINNEDSCARF_LENT(forbidden, no_byte), FINNEDSCARF_LENT(out_allowed, no_byte),
+                                     FINNEDSCARF_LENT(out_forbidden, no_byte));
+}
+
+static inline finnedscarf_outcome finnedscarf_mend_maps_lent(const uint16_t *words, size_t words_length, const uint8_t *allowed,
+                                                             size_t allowed_length, const uint8_t *forbidden, size_t forbidden_length,
+                                                             uint8_t *out_allowed, size_t out_allowed_length, uint8_t *out_forbidden,
+                                                             size_t out_forbidden_length)
+{
+    uint16_t no_word = 0;
+    uint8_t no_byte = 0;
+    return finnedscarf_mend_maps(FINNEDSCARF_LENT(words, no_word), FINNEDSCARF_LENT(allowed, no_byte),
+                                 FINNEDSCARF_LENT(forbidden, no_byte), FINNEDSCARF_LENT(out_allowed, no_byte),
+                                 FINNEDSCARF_LENT(out_forbidden, no_byte));
+}
+
+static inline finnedscarf_outcome finnedscarf_judge_mend_maps_lent(const uint16_t *words, size_t words_length, const uint8_t *allowed,
+                                                                   size_t allowed_length, const uint8_t *forbidden,
+                                                                   size_t forbidden_length, const uint8_t *proposed_allowed,
+                                                                   size_t proposed_allowed_length, const uint8_t *proposed_forbidden,
+                                                                   size_t proposed_forbidden_length)
+{
+    uint16_t no_word = 0;
+    uint8_t no_byte = 0;
+    return finnedscarf_judge_mend_maps(FINNEDSCARF_LENT(words, no_word), FINNEDSCARF_LENT(allowed, no_byte),
+                                       FINNEDSCARF_LENT(forbidden, no_byte), FINNEDSCARF_LENT(proposed_allowed, no_byte),
+                                       FINNEDSCARF_LENT(proposed_forbidden, no_byte));
+}
+
 #undef FINNEDSCARF_LENT
 
 #define finnedscarf_check_table finnedscarf_check_table_lent
@@ -236,6 +327,10 @@ static inline finnedscarf_outcome finnedscarf_judge_mend_lent(const uint16_t *wo
 #define finnedscarf_complete_roles finnedscarf_complete_roles_lent
 #define finnedscarf_mend finnedscarf_mend_lent
 #define finnedscarf_judge_mend finnedscarf_judge_mend_lent
+#define finnedscarf_judge_maps finnedscarf_judge_maps_lent
+#define finnedscarf_complete_maps finnedscarf_complete_maps_lent
+#define finnedscarf_mend_maps finnedscarf_mend_maps_lent
+#define finnedscarf_judge_mend_maps finnedscarf_judge_mend_maps_lent
 
 #ifdef __cplusplus
 }

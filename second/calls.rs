@@ -8,6 +8,9 @@ pub const TABLE: &[usize] = &[0, 1, 2, 3, 4, 5, 6, 7, 19, 8, 9];
 /// The numbers of the policy's own checks.
 pub const POLICY: &[usize] = &[10, 11];
 
+/// The same of a policy in two bit maps.
+pub const MAPS: &[usize] = &[10, 23, 24];
+
 /// A call on cases of one kind.
 pub struct Call<C: 'static> {
     pub name: &'static str,

@@ -4,6 +4,7 @@ use crate::calls::{Call, Told};
 use crate::dtd_case::{self, DtdCase};
 use crate::fail;
 use crate::format::Format;
+use crate::maps_case::{self, MapsCase};
 use crate::policy_case::{self, PolicyCase};
 use crate::roles_case::{self, RolesCase};
 use crate::stream::take;
@@ -12,6 +13,7 @@ pub enum Case {
     Policy(PolicyCase),
     Dtd(DtdCase),
     Roles(RolesCase),
+    Maps(MapsCase),
 }
 
 impl Case {
@@ -20,6 +22,7 @@ impl Case {
             policy_case::KIND => Case::Policy(PolicyCase::read(stream)),
             dtd_case::KIND => Case::Dtd(DtdCase::read(stream)),
             roles_case::KIND => Case::Roles(RolesCase::read(stream)),
+            maps_case::KIND => Case::Maps(MapsCase::read(stream)),
             kind => fail(&format!("there is no kind {}", kind)),
         }
     }
@@ -38,6 +41,10 @@ impl Case {
                 stream.push(roles_case::KIND);
                 case.write(stream);
             }
+            Case::Maps(case) => {
+                stream.push(maps_case::KIND);
+                case.write(stream);
+            }
         }
     }
 
@@ -47,6 +54,7 @@ impl Case {
             Case::Policy(case) => case.has(format),
             Case::Dtd(_) => false,
             Case::Roles(case) => case.has(format),
+            Case::Maps(case) => case.has(format),
         }
     }
 
@@ -54,7 +62,7 @@ impl Case {
     pub fn file(&self) -> Option<Vec<u8>> {
         match self {
             Case::Policy(case) => Some(case.file()),
-            Case::Dtd(_) | Case::Roles(_) => None,
+            Case::Dtd(_) | Case::Roles(_) | Case::Maps(_) => None,
         }
     }
 
@@ -64,6 +72,7 @@ impl Case {
             Case::Policy(case) => tell(&policy_case::CALLS, case),
             Case::Dtd(case) => tell(&dtd_case::CALLS, case),
             Case::Roles(case) => tell(&roles_case::CALLS, case),
+            Case::Maps(case) => tell(&maps_case::CALLS, case),
         }
     }
 }

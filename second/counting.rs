@@ -1,17 +1,18 @@
-// How often each call gave each number and each condition, and how often each situation of requests 5, 6, 8 and 9 came.
+// How often each call gave each number and each condition, and how often each situation of requests 5 to 9 came.
 
 use crate::answers::Answer;
 use crate::calls::{Call, Told, POLICY, TABLE};
 use crate::cases::{read_cases, Case};
 use crate::dtd_case;
 use crate::format::Format;
+use crate::maps_case::{self, MapsCase};
 use crate::policy_case::{self, PolicyCase};
 use crate::roles_case::{self, RolesCase};
-use crate::situations::{Situations, OF_CHAINS, OF_COUNTS, OF_FORMAT_TWO, OF_ROLES};
+use crate::situations::{maps, Situations, OF_CHAINS, OF_COUNTS, OF_FORMAT_TWO, OF_ROLES};
 use std::collections::BTreeMap;
 
 /// The numbers in the order of the checks.
-const NUMBERS: &[&[usize]] = &[&[20, 21, 22], TABLE, POLICY, &[12, 13, 14, 15, 16]];
+const NUMBERS: &[&[usize]] = &[&[20, 21, 22], TABLE, POLICY, &[23, 24], &[12, 13, 14, 15, 16]];
 
 const CONDITIONS: [usize; 3] = [1, 2, 3];
 
@@ -76,7 +77,7 @@ impl Row {
 
 fn line(name: &str, numbers: &[usize], conditions: &[usize], width: usize) -> String {
     let cells = |counts: &[usize]| counts.iter().map(|n| format!("{:>width$}", n)).collect::<String>();
-    format!("{:<9}{} |{}\n", name, cells(numbers), cells(conditions))
+    format!("{:<13}{} |{}\n", name, cells(numbers), cells(conditions))
 }
 
 /// A line for each row: how often each number came (before the bar) and each condition (after it).
@@ -106,6 +107,7 @@ impl Counts {
         rows.extend(dtd_case::CALLS.iter().map(Row::of));
         rows.extend(roles_case::CALLS.iter().map(Row::of));
         rows.push(Row::new(A_ROLE, &[roles_case::OF_ROLES], false));
+        rows.extend(maps_case::CALLS.iter().map(Row::of));
         Counts { rows, total: 0 }
     }
 
@@ -175,6 +177,8 @@ pub struct Overview {
     counts: Found<PolicyCase>,
     chains: Found<PolicyCase>,
     roles: Found<RolesCase>,
+    maps: Found<MapsCase>,
+    large_maps: Found<MapsCase>,
 }
 
 impl Overview {
@@ -182,7 +186,8 @@ impl Overview {
         let (all, of_two) = (Counts::new(), Counts::new());
         let [format_two, counts, chains] = [OF_FORMAT_TWO, OF_COUNTS, OF_CHAINS].map(Found::new);
         let roles = Found::new(OF_ROLES);
-        let mut overview = Overview { all, of_two, format_two, counts, chains, roles };
+        let [maps, large_maps] = [maps::USUAL, maps::LARGE].map(Found::new);
+        let mut overview = Overview { all, of_two, format_two, counts, chains, roles, maps, large_maps };
         cases.for_each(|case| overview.add(&case));
         overview
     }
@@ -198,6 +203,7 @@ impl Overview {
             Case::Policy(policy) => self.add_policy(policy),
             Case::Dtd(_) => (),
             Case::Roles(roles) => self.roles.add(roles),
+            Case::Maps(maps) => self.add_maps(maps),
         }
     }
 
@@ -205,6 +211,11 @@ impl Overview {
         self.format_two.add(policy);
         self.counts.add(policy);
         self.chains.add(policy);
+    }
+
+    fn add_maps(&mut self, maps: &MapsCase) {
+        self.maps.add(maps);
+        self.large_maps.add(maps);
     }
 
     /// The fewest of the numbers and conditions that the calls made can give.
@@ -232,11 +243,22 @@ impl Overview {
         self.roles.fewest()
     }
 
+    /// The fewest of the situations of request 7.
+    pub fn fewest_of_maps(&self) -> usize {
+        self.maps.fewest()
+    }
+
+    /// The fewest of those with maps as long as there may be.
+    pub fn fewest_of_large_maps(&self) -> usize {
+        self.large_maps.fewest()
+    }
+
     fn text(&self) -> String {
-        let Overview { all, of_two, format_two, counts, chains, roles } = self;
+        let Overview { all, of_two, format_two, counts, chains, roles, maps, large_maps } = self;
         let tables = format!("{}\nof format 2\n{}", all.text(), of_two.text());
-        let situations = [format_two.text(), counts.text(), chains.text(), roles.text()];
-        format!("{}\n{}", tables, situations.join("\n"))
+        let of_policies = [format_two.text(), counts.text(), chains.text()];
+        let of_others = [roles.text(), maps.text(), large_maps.text()];
+        format!("{}\n{}\n{}", tables, of_policies.join("\n"), of_others.join("\n"))
     }
 }
 

@@ -6,6 +6,7 @@ pub mod cycles;
 mod damage;
 pub mod dtds;
 pub mod files;
+pub mod maps;
 pub mod policies;
 pub mod roles;
 pub mod schemas;
@@ -79,10 +80,11 @@ fn policies(seed: u64, count: usize) -> impl Iterator<Item = PolicyCase> {
     (0..count).map(move |k| make_policy(&mut r, k))
 }
 
-/// So many policies of format 1, then so many DTD texts, then so many policies of format 2 or of another word 0, and then so many calls on
-/// roles.
-pub fn cases(seed: u64, [count, dtds, second_format, roles]: [usize; 4]) -> impl Iterator<Item = Case> {
-    let of_two = second_format::cases(seed, second_format);
-    let before = policies(seed, count).map(Case::Policy).chain(dtds::cases(seed, dtds).map(Case::Dtd));
-    before.chain(of_two.map(Case::Policy)).chain(roles::cases(seed, roles).map(Case::Roles))
+/// So many policies of format 1, then so many DTD texts, then so many policies of format 2 or of another word 0, then so many calls on roles,
+/// and then so many on bit maps.
+pub fn cases(seed: u64, [count, dtds, second_format, roles, maps]: [usize; 5]) -> impl Iterator<Item = Case> {
+    let of_one = policies(seed, count).map(Case::Policy).chain(dtds::cases(seed, dtds).map(Case::Dtd));
+    let of_two = second_format::cases(seed, second_format).map(Case::Policy);
+    let (roles, maps) = (roles::cases(seed, roles), maps::cases(seed, maps));
+    of_one.chain(of_two).chain(roles.map(Case::Roles)).chain(maps.map(Case::Maps))
 }

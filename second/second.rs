@@ -15,6 +15,8 @@ mod forbidden_below;
 pub mod format;
 mod judge;
 pub mod making;
+pub mod maps;
+pub mod maps_case;
 pub mod mending;
 pub mod policy_case;
 pub mod roles;
@@ -38,7 +40,7 @@ use self_check::self_check;
 use std::io::{Read, Write};
 use table::{HEADER, MOST_ENTRIES, MOST_TYPES, RECORD};
 
-const USAGE: &str = "modes: judge | cases SEED COUNT DTDS SECOND_FORMAT ROLES | answers | count \
+const USAGE: &str = "modes: judge | cases SEED COUNT DTDS SECOND_FORMAT ROLES MAPS | answers | count \
     | files FOLDER | random SEED COUNT SECOND_FORMAT FILE... | reports | count files | dtd | count dtds SEED COUNT \
     | documents SEED COUNT FOLDER | texts SEED COUNT FOLDER | self";
 

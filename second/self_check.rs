@@ -6,6 +6,7 @@ pub mod dtds;
 mod every;
 mod forbidden_below;
 mod literal;
+mod maps;
 mod policies;
 mod roles;
 mod samples;
@@ -23,6 +24,7 @@ use counts::self_counts;
 use dtds::self_dtds;
 use every::self_every;
 use forbidden_below::self_forbidden_below;
+use maps::self_maps;
 use policies::{self_policy, self_renumbered, small_policy, unset};
 use roles::self_roles;
 use samples::self_samples;
@@ -101,6 +103,7 @@ pub fn self_check(seed: u64, count: usize) -> String {
         self_second_format(seed),
         self_counts(seed),
         self_roles(seed, count),
+        self_maps(seed, count),
         self_dtds(seed, count),
     ]
     .concat()

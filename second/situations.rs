@@ -1,9 +1,11 @@
-// What requests 5, 6, 8 and 9 bring besides numbers and conditions: the situations that a case can be in, by name.
+// What requests 5 to 9 bring besides numbers and conditions: the situations that a case can be in, by name.
 
+mod bits;
 mod breaches;
 mod chains;
 mod completions;
 mod counts;
+pub mod maps;
 mod mends;
 mod policy;
 mod proposals;

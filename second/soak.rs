@@ -1,5 +1,5 @@
 // Holds the exported library to the second program on fresh cases: each call, all of its answer, and every lent run afterwards.
-// second/soak builds it and runs it with SEED, COUNT, DTDS, SECOND_FORMAT, ROLES and the folder where a case that differs is kept.
+// second/soak builds it and runs it with SEED, COUNT, DTDS, SECOND_FORMAT, ROLES, MAPS and the folder where a case that differs is kept.
 
 #[path = "../bindings/rust/src/border.rs"]
 mod border;
@@ -11,6 +11,7 @@ use second::chain::Chain;
 use second::counting::Counts;
 use second::dtd_case::{self, DtdCase};
 use second::making;
+use second::maps_case::{self, MapsCase};
 use second::policy_case::{self, PolicyCase};
 use second::roles_case::{self, RolesCase};
 use std::hint::black_box;
@@ -45,6 +46,26 @@ const ROLES: [fn(&RolesCase) -> Told; roles_case::CALLS.len()] = [|case| {
     case.writing(|words, marks, numbers, out| outcome_of(border::complete_roles(words, marks, numbers, out)))
 }];
 
+/// The same on cases of kind 3.
+const MAPS: [fn(&MapsCase) -> Told; maps_case::CALLS.len()] = [
+    |case| case.judging(|words, allowed, forbidden| outcome_of(border::judge_maps(words, allowed, forbidden))),
+    |case| {
+        case.writing(|words, allowed, forbidden, out_allowed, out_forbidden| {
+            outcome_of(border::complete_maps(words, allowed, forbidden, out_allowed, out_forbidden))
+        })
+    },
+    |case| {
+        case.writing(|words, allowed, forbidden, out_allowed, out_forbidden| {
+            outcome_of(border::mend_maps(words, allowed, forbidden, out_allowed, out_forbidden))
+        })
+    },
+    |case| {
+        case.proposing(|words, allowed, forbidden, proposed_allowed, proposed_forbidden| {
+            outcome_of(border::judge_mend_maps(words, allowed, forbidden, proposed_allowed, proposed_forbidden))
+        })
+    },
+];
+
 /// Makes each call on a case by both and counts the answers, up to the first difference.
 fn compare<C: Clone + PartialEq>(
     calls: &[Call<C>],
@@ -71,6 +92,7 @@ fn compare_case(case: &Case, counts: &mut Counts) -> Result<(), String> {
         Case::Policy(case) => compare(&policy_case::CALLS, &POLICY, case, counts),
         Case::Dtd(case) => compare(&dtd_case::CALLS, &DTD, case, counts),
         Case::Roles(case) => compare(&roles_case::CALLS, &ROLES, case, counts),
+        Case::Maps(case) => compare(&maps_case::CALLS, &MAPS, case, counts),
     }
 }
 
@@ -80,7 +102,7 @@ fn fail(what: &str) -> ! {
 }
 
 fn number(text: &str) -> u64 {
-    text.parse().unwrap_or_else(|_| fail("SEED, COUNT, DTDS, SECOND_FORMAT and ROLES are numbers"))
+    text.parse().unwrap_or_else(|_| fail("SEED, COUNT, DTDS, SECOND_FORMAT, ROLES and MAPS are numbers"))
 }
 
 /// Keeps a case as a stream, and says where.
@@ -91,7 +113,7 @@ fn keep(case: Case, path: &str) -> String {
     }
 }
 
-fn soak(seed: u64, sizes: [usize; 4], folder: &str) {
+fn soak(seed: u64, sizes: [usize; 5], folder: &str) {
     let mut counts = Counts::new();
     for (k, case) in making::cases(seed, sizes).enumerate() {
         if let Err(difference) = compare_case(&case, &mut counts) {
@@ -108,10 +130,10 @@ fn main() {
     let arguments: Vec<String> = std::env::args().skip(1).collect();
     let arguments: Vec<&str> = arguments.iter().map(String::as_str).collect();
     match arguments[..] {
-        [seed, count, dtds, second_format, roles, folder] => {
-            let sizes = [count, dtds, second_format, roles].map(|text| number(text) as usize);
+        [seed, count, dtds, second_format, roles, maps, folder] => {
+            let sizes = [count, dtds, second_format, roles, maps].map(|text| number(text) as usize);
             soak(number(seed), sizes, folder)
         }
-        _ => fail("soak SEED COUNT DTDS SECOND_FORMAT ROLES FOLDER"),
+        _ => fail("soak SEED COUNT DTDS SECOND_FORMAT ROLES MAPS FOLDER"),
     }
 }

@@ -29,6 +29,8 @@ static const char *number_text(size_t number)
     case FINNEDSCARF_TOTAL: return "9";
     case FINNEDSCARF_MARKS_LENGTH: return "10";
     case FINNEDSCARF_MARK: return "11";
+    case FINNEDSCARF_BOTH: return "23";
+    case FINNEDSCARF_SPARE: return "24";
     case FINNEDSCARF_SHORT: return "12";
     case FINNEDSCARF_PROPOSED_LENGTH: return "13";
     case FINNEDSCARF_PROPOSED_MARK: return "14";
@@ -100,6 +102,18 @@ static size_t read_bytes(uint8_t *run)
     return length;
 }
 
+/* Two maps, as they are lent together. */
+struct maps {
+    uint8_t allowed[MOST], forbidden[MOST];
+    size_t allowed_length, forbidden_length;
+};
+
+static void read_maps(struct maps *m)
+{
+    m->allowed_length = read_bytes(m->allowed);
+    m->forbidden_length = read_bytes(m->forbidden);
+}
+
 static int more(void)
 {
     int byte = getchar();
@@ -119,6 +133,13 @@ static void put_run(const uint8_t *run, size_t length)
     putchar(' ');
     for (size_t k = 0; k < length; k++)
         put_mark(run[k]);
+}
+
+static void put_map(const uint8_t *map, size_t length)
+{
+    putchar(' ');
+    for (size_t k = 0; k < length; k++)
+        printf("%02x", map[k]);
 }
 
 static void put_word(uint16_t word)
@@ -149,6 +170,15 @@ static void put_written(size_t number, const char *call, finnedscarf_outcome o, 
 {
     put_outcome(number, call, o);
     put_run(out, length);
+    putchar('\n');
+}
+
+/* The line of a call that may write two maps. */
+static void put_written_maps(size_t number, const char *call, finnedscarf_outcome o, const struct maps *out)
+{
+    put_outcome(number, call, o);
+    put_map(out->allowed, out->allowed_length);
+    put_map(out->forbidden, out->forbidden_length);
     putchar('\n');
 }
 
@@ -204,6 +234,34 @@ static void run_roles(size_t number)
     putchar('\n');
 }
 
+/* The calls on a case of kind 3. Each that may write the two maps of the result starts from them as they were lent. */
+static void run_maps(size_t number)
+{
+    static uint16_t words[MOST];
+    static struct maps own, lent, proposed, out;
+    size_t w = read_words(words);
+    read_maps(&own);
+    read_maps(&lent);
+    read_maps(&proposed);
+
+    const uint8_t *allowed = own.allowed, *forbidden = own.forbidden;
+    size_t a = own.allowed_length, f = own.forbidden_length;
+    put_line(number, "verdict_maps", finnedscarf_judge_maps(words, w, allowed, a, forbidden, f));
+    out = lent;
+    put_written_maps(number, "complete_maps",
+                     finnedscarf_complete_maps(words, w, allowed, a, forbidden, f, out.allowed, out.allowed_length, out.forbidden,
+                                               out.forbidden_length),
+                     &out);
+    out = lent;
+    put_written_maps(number, "mend_maps",
+                     finnedscarf_mend_maps(words, w, allowed, a, forbidden, f, out.allowed, out.allowed_length, out.forbidden,
+                                           out.forbidden_length),
+                     &out);
+    put_line(number, "propose_maps",
+             finnedscarf_judge_mend_maps(words, w, allowed, a, forbidden, f, proposed.allowed, proposed.allowed_length, proposed.forbidden,
+                                         proposed.forbidden_length));
+}
+
 int main(void)
 {
     for (size_t number = 0; more(); number++) {
@@ -211,6 +269,7 @@ int main(void)
         case 0: run_policy(number); break;
         case 1: run_dtd(number); break;
         case 2: run_roles(number); break;
+        case 3: run_maps(number); break;
         default: exit(2);
         }
     }

@@ -1,8 +1,8 @@
 //! Makes the calls on a stream of cases through the safe wrapper and prints a line for each (second/README.md has the form of both).
 //! Conditions and marks are printed by the wrapper's names for them, so that each name is held to its value.
 
-use finnedscarf::{check_table, complete, complete_roles, judge_mend, judge_policy, mend, read_dtd};
-use finnedscarf::{Breach, Condition, Refusal, RoleRefusal, Roles, ALLOWED, FORBIDDEN, UNSET};
+use finnedscarf::{check_table, complete, complete_maps, complete_roles, judge_maps, judge_mend, judge_mend_maps, judge_policy, mend};
+use finnedscarf::{mend_maps, read_dtd, Breach, Condition, Maps, MapsMut, Refusal, RoleRefusal, Roles, ALLOWED, FORBIDDEN, UNSET};
 use std::io::{self, BufWriter, Read, Write};
 
 struct Stream(Vec<u8>, usize);
@@ -31,6 +31,22 @@ impl Stream {
 
     fn bytes(&mut self) -> Vec<u8> {
         (0..self.length()).map(|_| self.byte()).collect()
+    }
+
+    fn maps(&mut self) -> TwoMaps {
+        TwoMaps { allowed: self.bytes(), forbidden: self.bytes() }
+    }
+}
+
+/// Two maps, as they are lent together.
+struct TwoMaps {
+    allowed: Vec<u8>,
+    forbidden: Vec<u8>,
+}
+
+impl TwoMaps {
+    fn lent(&self) -> Maps<'_> {
+        Maps { allowed: &self.allowed, forbidden: &self.forbidden }
     }
 }
 
@@ -94,6 +110,17 @@ fn written(call: &str, lent: &[u8], make: impl Fn(&mut [u8]) -> Result<Done, Ref
     line(call, make(&mut out)) + " " + &run_text(&out)
 }
 
+fn map_text(map: &[u8]) -> String {
+    map.iter().map(|byte| format!("{byte:02x}")).collect()
+}
+
+/// The line of a call that may write two maps, of which it gets its own copies.
+fn written_maps(call: &str, lent: &TwoMaps, make: impl Fn(MapsMut) -> Result<Done, Refusal>) -> String {
+    let (mut allowed, mut forbidden) = (lent.allowed.clone(), lent.forbidden.clone());
+    let answer = make(MapsMut { allowed: &mut allowed, forbidden: &mut forbidden });
+    format!("{} {} {}", line(call, answer), map_text(&allowed), map_text(&forbidden))
+}
+
 fn counted(count: usize) -> Done {
     Done { count, ..Done::default() }
 }
@@ -147,6 +174,18 @@ fn roles_lines(stream: &mut Stream) -> Vec<String> {
     vec![format!("{} {} {}", line("roles", answer.map(|_| Done::default())), words_text(&numbers), run_text(&out))]
 }
 
+/// The calls on a case of kind 3.
+fn maps_lines(stream: &mut Stream) -> Vec<String> {
+    let words = stream.words();
+    let (own, lent, proposed) = (stream.maps(), stream.maps(), stream.maps());
+    vec![
+        line("verdict_maps", judge_maps(&words, own.lent()).map(|breach| Done { breach, ..Done::default() })),
+        written_maps("complete_maps", &lent, |out| complete_maps(&words, own.lent(), out).map(|()| Done::default())),
+        written_maps("mend_maps", &lent, |out| mend_maps(&words, own.lent(), out).map(counted)),
+        line("propose_maps", judge_mend_maps(&words, own.lent(), proposed.lent()).map(counted)),
+    ]
+}
+
 fn main() -> io::Result<()> {
     let mut stream = Stream(Vec::new(), 0);
     io::stdin().read_to_end(&mut stream.0)?;
@@ -157,6 +196,7 @@ fn main() -> io::Result<()> {
             0 => policy_lines(&mut stream),
             1 => dtd_lines(&mut stream),
             2 => roles_lines(&mut stream),
+            3 => maps_lines(&mut stream),
             kind => panic!("there is no kind {kind}"),
         };
         for line in lines {

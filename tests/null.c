@@ -55,6 +55,29 @@ BORDER(finnedscarf_mend,
 BORDER(finnedscarf_judge_mend,
        (const uint16_t *words, size_t words_length, const uint8_t *marks, size_t marks_length, const uint8_t *proposed, size_t proposed_length),
        (words, words_length, marks, marks_length, proposed, proposed_length), words && marks && proposed)
+BORDER(finnedscarf_judge_maps,
+       (const uint16_t *words, size_t words_length, const uint8_t *allowed, size_t allowed_length, const uint8_t *forbidden,
+        size_t forbidden_length),
+       (words, words_length, allowed, allowed_length, forbidden, forbidden_length), words && allowed && forbidden)
+BORDER(finnedscarf_complete_maps,
+       (const uint16_t *words, size_t words_length, const uint8_t *allowed, size_t allowed_length, const uint8_t *forbidden,
+        size_t forbidden_length, uint8_t *out_allowed, size_t out_allowed_length, uint8_t *out_forbidden, size_t out_forbidden_length),
+       (words, words_length, allowed, allowed_length, forbidden, forbidden_length, out_allowed, out_allowed_length, out_forbidden,
+        out_forbidden_length),
+       words && allowed && forbidden && out_allowed && out_forbidden)
+BORDER(finnedscarf_mend_maps,
+       (const uint16_t *words, size_t words_length, const uint8_t *allowed, size_t allowed_length, const uint8_t *forbidden,
+        size_t forbidden_length, uint8_t *out_allowed, size_t out_allowed_length, uint8_t *out_forbidden, size_t out_forbidden_length),
+       (words, words_length, allowed, allowed_length, forbidden, forbidden_length, out_allowed, out_allowed_length, out_forbidden,
+        out_forbidden_length),
+       words && allowed && forbidden && out_allowed && out_forbidden)
+BORDER(finnedscarf_judge_mend_maps,
+       (const uint16_t *words, size_t words_length, const uint8_t *allowed, size_t allowed_length, const uint8_t *forbidden,
+        size_t forbidden_length, const uint8_t *proposed_allowed, size_t proposed_allowed_length, const uint8_t *proposed_forbidden,
+        size_t proposed_forbidden_length),
+       (words, words_length, allowed, allowed_length, forbidden, forbidden_length, proposed_allowed, proposed_allowed_length,
+        proposed_forbidden, proposed_forbidden_length),
+       words && allowed && forbidden && proposed_allowed && proposed_forbidden)
 #ifdef __cplusplus
 }
 #endif
@@ -69,6 +92,15 @@ static finnedscarf_outcome (*const complete_roles)(const uint16_t *, size_t, con
 static writes *const mend = &finnedscarf_mend;
 static finnedscarf_outcome (*const judge_mend)(const uint16_t *, size_t, const uint8_t *, size_t, const uint8_t *, size_t) =
     finnedscarf_judge_mend;
+
+typedef finnedscarf_outcome writes_maps(const uint16_t *, size_t, const uint8_t *, size_t, const uint8_t *, size_t, uint8_t *, size_t,
+                                        uint8_t *, size_t);
+static finnedscarf_outcome (*const judge_maps)(const uint16_t *, size_t, const uint8_t *, size_t, const uint8_t *, size_t) =
+    finnedscarf_judge_maps;
+static writes_maps *const complete_maps = &finnedscarf_complete_maps;
+static writes_maps *const mend_maps = finnedscarf_mend_maps;
+static finnedscarf_outcome (*const judge_mend_maps)(const uint16_t *, size_t, const uint8_t *, size_t, const uint8_t *, size_t,
+                                                    const uint8_t *, size_t, const uint8_t *, size_t) = &finnedscarf_judge_mend_maps;
 
 /* Two tables of one type, which is empty and has no privilege, or a text and has one: V is the table's place here. The same as DTD text. */
 static const uint16_t tables[2][11] = {{1, 11, 1, 0, 8, 0, 11, 0, 0, 0, 0}, {1, 11, 1, 0, 8, 0, 11, 1, 1, 0, 0}};
@@ -230,6 +262,122 @@ static void try_roles(int address, size_t v, int empty, struct runs none, uint16
     }
 }
 
+/* The runs of a call over maps that are empty, as a sum with that of the words. The other pair is the result, or the proposed maps. */
+enum { ALLOWED = 2, FORBIDDEN = 4, OTHER_ALLOWED = 8, OTHER_FORBIDDEN = 16 };
+
+enum { JUDGE_MAPS, COMPLETE_MAPS, MEND_MAPS, JUDGE_MEND_MAPS, MAPS_CALLS };
+
+static const struct {
+    const char *name;
+    int sums;     /* how many sums of its runs there are */
+    size_t other; /* the number of its answer if a map of the other pair is missing */
+} maps_calls[MAPS_CALLS] = {
+    {"judge_maps", 8, 0},
+    {"complete_maps", 32, FINNEDSCARF_SHORT},
+    {"mend_maps", 32, FINNEDSCARF_SHORT},
+    {"judge_mend_maps", 32, FINNEDSCARF_PROPOSED_LENGTH},
+};
+
+struct maps_runs {
+    const uint16_t *words;
+    const uint8_t *allowed, *forbidden;
+    uint8_t *other_allowed, *other_forbidden;
+    size_t w, a, f, oa, of; /* their lengths */
+};
+
+static finnedscarf_outcome maps_by_name(int call, struct maps_runs r)
+{
+    switch (call) {
+    case JUDGE_MAPS: return finnedscarf_judge_maps(r.words, r.w, r.allowed, r.a, r.forbidden, r.f);
+    case COMPLETE_MAPS:
+        return finnedscarf_complete_maps(r.words, r.w, r.allowed, r.a, r.forbidden, r.f, r.other_allowed, r.oa, r.other_forbidden, r.of);
+    case MEND_MAPS:
+        return finnedscarf_mend_maps(r.words, r.w, r.allowed, r.a, r.forbidden, r.f, r.other_allowed, r.oa, r.other_forbidden, r.of);
+    default:
+        return finnedscarf_judge_mend_maps(r.words, r.w, r.allowed, r.a, r.forbidden, r.f, r.other_allowed, r.oa, r.other_forbidden, r.of);
+    }
+}
+
+static finnedscarf_outcome maps_by_address(int call, struct maps_runs r)
+{
+    switch (call) {
+    case JUDGE_MAPS: return judge_maps(r.words, r.w, r.allowed, r.a, r.forbidden, r.f);
+    case COMPLETE_MAPS: return complete_maps(r.words, r.w, r.allowed, r.a, r.forbidden, r.f, r.other_allowed, r.oa, r.other_forbidden, r.of);
+    case MEND_MAPS: return mend_maps(r.words, r.w, r.allowed, r.a, r.forbidden, r.f, r.other_allowed, r.oa, r.other_forbidden, r.of);
+    default: return judge_mend_maps(r.words, r.w, r.allowed, r.a, r.forbidden, r.f, r.other_allowed, r.oa, r.other_forbidden, r.of);
+    }
+}
+
+/* The runs with some of them taken from `none`, which are all empty. */
+static struct maps_runs emptied_maps(struct maps_runs r, struct runs none, int empty)
+{
+    if (empty & WORDS) {
+        r.words = none.words;
+        r.w = 0;
+    }
+    if (empty & ALLOWED) {
+        r.allowed = none.marks;
+        r.a = 0;
+    }
+    if (empty & FORBIDDEN) {
+        r.forbidden = none.marks;
+        r.f = 0;
+    }
+    if (empty & OTHER_ALLOWED) {
+        r.other_allowed = none.third;
+        r.oa = 0;
+    }
+    if (empty & OTHER_FORBIDDEN) {
+        r.other_forbidden = none.third;
+        r.of = 0;
+    }
+    return r;
+}
+
+static size_t maps_number(int call, size_t v, int empty)
+{
+    if (empty & WORDS)
+        return FINNEDSCARF_FORMAT;
+    if (v == 0)
+        return FINNEDSCARF_DONE;
+    if (empty & (ALLOWED | FORBIDDEN))
+        return FINNEDSCARF_MARKS_LENGTH;
+    if (empty & (OTHER_ALLOWED | OTHER_FORBIDDEN))
+        return maps_calls[call].other;
+    return FINNEDSCARF_DONE;
+}
+
+/* Makes a call over maps in which some runs are empty: those of `none`, which are all empty. Where V is 0, so are the maps. */
+static void try_maps(int call, int address, size_t v, int empty, struct runs none)
+{
+    static const uint8_t no_bit[1] = {0}, bit[1] = {1};
+    uint8_t other[2][2] = {{9, 9}, {9, 9}}, first[2] = {9, 9};
+    struct maps_runs r = {tables[v], no_bit, no_bit, other[0], other[1], 11, v, v, 2, 2};
+    if (call == JUDGE_MEND_MAPS) {
+        r.allowed = bit;
+        other[0][0] = first[0] = 0;
+        other[1][0] = first[1] = 1;
+        r.oa = r.of = v;
+    }
+    r = emptied_maps(r, none, empty);
+    finnedscarf_outcome o = address ? maps_by_address(call, r) : maps_by_name(call, r);
+
+    size_t number = maps_number(call, v, empty);
+    size_t count = call == JUDGE_MEND_MAPS && number == 0 ? v : 0;
+    if (v == 1 && number == 0 && (call == COMPLETE_MAPS || call == MEND_MAPS)) {
+        first[0] = 0;
+        first[1] = call == COMPLETE_MAPS;
+    }
+    int right = other[0][0] == first[0] && other[0][1] == 9 && other[1][0] == first[1] && other[1][1] == 9;
+    if (o.number != number || o.place || o.count != count || has_breach(o) || !right) {
+        printf("tests/null: %s by %s, V %zu, empty runs %d: number %zu, place %zu, count %zu, other pair %d %d and %d %d, where %zu, 0, %zu, "
+               "%d 9 and %d 9 and no breach is right\n",
+               maps_calls[call].name, address ? "address" : "name", v, empty, o.number, o.place, o.count, other[0][0], other[0][1],
+               other[1][0], other[1][1], number, count, first[0], first[1]);
+        exit(1);
+    }
+}
+
 /* The table that is read, and the numbers of the roles, are empty runs of words that a call may write. */
 static size_t try_all(struct runs none, uint16_t *no_words)
 {
@@ -247,6 +395,11 @@ static size_t try_all(struct runs none, uint16_t *no_words)
             for (size_t v = 0; v < 2; v++)
                 for (int empty = 0; empty < calls[call].sums; empty++, tried++)
                     try_call(call, address, v, empty, none);
+    for (int call = 0; call < MAPS_CALLS; call++)
+        for (int address = 0; address < 2; address++)
+            for (size_t v = 0; v < 2; v++)
+                for (int empty = 0; empty < maps_calls[call].sums; empty++, tried++)
+                    try_maps(call, address, v, empty, none);
     return tried;
 }
 

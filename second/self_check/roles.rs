@@ -87,7 +87,7 @@ fn self_arrangements() {
 }
 
 /// A lone empty type.
-const NO_PRIVILEGE: [u16; 11] = [1, 11, 1, 0, 8, 0, 11, 0, 0, 0, 0];
+pub const NO_PRIVILEGE: [u16; 11] = [1, 11, 1, 0, 8, 0, 11, 0, 0, 0, 0];
 
 fn self_without_privileges() {
     for count in [0, 1, 1000, 65_536] {
@@ -98,7 +98,7 @@ fn self_without_privileges() {
 }
 
 /// The sample with another word, and the number and the place of its refusal.
-const REFUSED_TABLES: [(usize, u16, [usize; 2]); 10] = [
+pub const REFUSED_TABLES: [(usize, u16, [usize; 2]); 10] = [
     (0, 3, [1, 0]),
     (3, 8, [2, 0]),
     (14, 5, [3, 2]),

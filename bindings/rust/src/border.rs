@@ -19,7 +19,7 @@ pub struct Outcome {
 }
 
 // SAFETY of each call: a pointer, which in a slice is never NULL, and its length, from one slice that lives through the call; the borrows keep
-// `out` and `numbers` apart from the rest.
+// what it may write apart from the rest.
 
 pub fn check_table(words: &[u16]) -> Outcome {
     unsafe { finnedscarf_check_table(words.as_ptr(), words.len()) }
@@ -62,6 +62,63 @@ pub fn judge_mend(words: &[u16], marks: &[u8], proposed: &[u8]) -> Outcome {
     }
 }
 
+pub fn judge_maps(words: &[u16], allowed: &[u8], forbidden: &[u8]) -> Outcome {
+    unsafe {
+        finnedscarf_judge_maps(words.as_ptr(), words.len(), allowed.as_ptr(), allowed.len(), forbidden.as_ptr(), forbidden.len())
+    }
+}
+
+pub fn complete_maps(words: &[u16], allowed: &[u8], forbidden: &[u8], out_allowed: &mut [u8], out_forbidden: &mut [u8]) -> Outcome {
+    unsafe {
+        finnedscarf_complete_maps(
+            words.as_ptr(),
+            words.len(),
+            allowed.as_ptr(),
+            allowed.len(),
+            forbidden.as_ptr(),
+            forbidden.len(),
+            out_allowed.as_mut_ptr(),
+            out_allowed.len(),
+            out_forbidden.as_mut_ptr(),
+            out_forbidden.len(),
+        )
+    }
+}
+
+pub fn mend_maps(words: &[u16], allowed: &[u8], forbidden: &[u8], out_allowed: &mut [u8], out_forbidden: &mut [u8]) -> Outcome {
+    unsafe {
+        finnedscarf_mend_maps(
+            words.as_ptr(),
+            words.len(),
+            allowed.as_ptr(),
+            allowed.len(),
+            forbidden.as_ptr(),
+            forbidden.len(),
+            out_allowed.as_mut_ptr(),
+            out_allowed.len(),
+            out_forbidden.as_mut_ptr(),
+            out_forbidden.len(),
+        )
+    }
+}
+
+pub fn judge_mend_maps(words: &[u16], allowed: &[u8], forbidden: &[u8], proposed_allowed: &[u8], proposed_forbidden: &[u8]) -> Outcome {
+    unsafe {
+        finnedscarf_judge_mend_maps(
+            words.as_ptr(),
+            words.len(),
+            allowed.as_ptr(),
+            allowed.len(),
+            forbidden.as_ptr(),
+            forbidden.len(),
+            proposed_allowed.as_ptr(),
+            proposed_allowed.len(),
+            proposed_forbidden.as_ptr(),
+            proposed_forbidden.len(),
+        )
+    }
+}
+
 #[link(name = "store", kind = "static")]
 extern "C" {
     fn finnedscarf_check_table(words: *const u16, words_length: usize) -> Outcome;
@@ -100,5 +157,49 @@ extern "C" {
         marks_length: usize,
         proposed: *const u8,
         proposed_length: usize,
+    ) -> Outcome;
+    fn finnedscarf_judge_maps(
+        words: *const u16,
+        words_length: usize,
+        allowed: *const u8,
+        allowed_length: usize,
+        forbidden: *const u8,
+        forbidden_length: usize,
+    ) -> Outcome;
+    fn finnedscarf_complete_maps(
+        words: *const u16,
+        words_length: usize,
+        allowed: *const u8,
+        allowed_length: usize,
+        forbidden: *const u8,
+        forbidden_length: usize,
+        out_allowed: *mut u8,
+        out_allowed_length: usize,
+        out_forbidden: *mut u8,
+        out_forbidden_length: usize,
+    ) -> Outcome;
+    fn finnedscarf_mend_maps(
+        words: *const u16,
+        words_length: usize,
+        allowed: *const u8,
+        allowed_length: usize,
+        forbidden: *const u8,
+        forbidden_length: usize,
+        out_allowed: *mut u8,
+        out_allowed_length: usize,
+        out_forbidden: *mut u8,
+        out_forbidden_length: usize,
+    ) -> Outcome;
+    fn finnedscarf_judge_mend_maps(
+        words: *const u16,
+        words_length: usize,
+        allowed: *const u8,
+        allowed_length: usize,
+        forbidden: *const u8,
+        forbidden_length: usize,
+        proposed_allowed: *const u8,
+        proposed_allowed_length: usize,
+        proposed_forbidden: *const u8,
+        proposed_forbidden_length: usize,
     ) -> Outcome;
 }

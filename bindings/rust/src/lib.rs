@@ -1,5 +1,6 @@
 //! Safe calls of Finnedscarf, the proved policy checker: checks a schema table, reads one from DTD text, judges a policy of edits on it,
-//! completes the policy, or those of all roles of a show at once, mends it, and judges a mend that somebody proposes.
+//! completes the policy, or those of all roles of a show at once, mends it, and judges a mend that somebody proposes. What is done to one
+//! policy is done as well to one that is kept as two bit maps ([`Maps`]).
 //!
 //! `words` is the schema table and `marks` the policy, one byte for each of its V privileges: [`UNSET`], [`ALLOWED`] or [`FORBIDDEN`].
 //! `include/finnedscarf.h` has the layout of the table, the table of a DTD text and the numbers of the privileges. Word 0 of a table is its
@@ -33,9 +34,11 @@
 //! variable `FINNEDSCARF_LIB` names; for rustc it is `-L native=target/staticlib` where this crate is compiled.
 
 mod border;
+mod maps;
 mod roles;
 
 use border::Outcome;
+pub use maps::{Maps, MapsMut};
 pub use roles::{RoleRefusal, Roles};
 use std::error::Error;
 use std::fmt;
@@ -151,7 +154,7 @@ impl fmt::Display for Breach {
 /// ```
 #[derive(Clone, Copy, Debug, PartialEq, Eq)]
 pub struct Refusal {
-    /// 1 to 16 or 19 to 22, as in `include/finnedscarf.h`.
+    /// 1 to 16 or 19 to 24, as in `include/finnedscarf.h`.
     pub number: usize,
     /// The lowest type, privilege or byte at which the check of this number fails; 0 where the check has no places.
     pub place: usize,
@@ -173,15 +176,22 @@ impl fmt::Display for Refusal {
             7 => write!(f, "the same child twice at parent {place}"),
             8 => write!(f, "type {place} is not reached from the root"),
             9 => write!(f, "over 4,096 privileges, or word 7 is not their number"),
-            10 => write!(f, "not one mark for each privilege (with all roles at once: of each role)"),
+            10 => write!(
+                f,
+                "not one mark for each privilege (with all roles at once: of each role; over maps: not one bit for each, rounded up to bytes)"
+            ),
             11 => write!(f, "a mark above 2 at privilege {place}"),
             12 => write!(
                 f,
-                "result shorter than the number of privileges (with all roles at once: for each role), or than the table that is read"
+                "result shorter than the number of privileges (with all roles at once: for each role; over maps: in bits), or than the table \
+                 that is read"
             ),
-            13 => write!(f, "not one proposed mark for each privilege"),
-            14 => write!(f, "a proposed mark above 2 at privilege {place}"),
-            15 => write!(f, "a change other than from 1 to 2 at privilege {place}"),
+            13 => write!(f, "not one proposed mark for each privilege (over maps: not one bit for each, rounded up to bytes)"),
+            14 => write!(
+                f,
+                "a proposed mark above 2 at privilege {place} (over maps: it is set in both, or, with 0, a spare bit is set in either)"
+            ),
+            15 => write!(f, "a change other than from allowed to forbidden at privilege {place}"),
             19 => write!(f, "type {place} is on a cycle: it is below one of its own children"),
             20 => write!(f, "not DTD text: byte {place} cannot stand there (one past the last: it ends too early)"),
             21 => write!(
@@ -189,6 +199,8 @@ impl fmt::Display for Refusal {
                 "ANY, mixed content with names, or a limit passed at byte {place} (one past the last: too many types or child entries)"
             ),
             22 => write!(f, "the name at byte {place} was declared before, or is used and never declared"),
+            23 => write!(f, "privilege {place} is set in both maps"),
+            24 => write!(f, "a spare bit is set in a map, behind those of the privileges"),
             _ => write!(f, "a breach"),
         }?;
         match breach {
@@ -272,6 +284,46 @@ pub fn mend(words: &[u16], marks: &[u8], out: &mut [u8]) -> Result<usize, Refusa
 /// proposed policy is clean. Refused with 1 to 11, 13 to 16 and 19.
 pub fn judge_mend(words: &[u16], marks: &[u8], proposed: &[u8]) -> Result<usize, Refusal> {
     border::judge_mend(words, marks, proposed).done().map(|done| done.count)
+}
+
+/// Judges a policy that is kept as two bit maps, as [`judge_policy`] does one of marks, and gives its first breach, or `None` if it is clean.
+/// Refused with 1 to 10 and 19, with 23 if a privilege is set in both maps, and with 24 if a spare bit is set in either.
+pub fn judge_maps(words: &[u16], maps: Maps) -> Result<Option<Breach>, Refusal> {
+    let Maps { allowed, forbidden } = maps;
+    border::judge_maps(words, allowed, forbidden).done().map(|done| done.breach())
+}
+
+/// Completes a policy that is kept as two bit maps, as [`complete`] does one of marks: writes the two maps of the completed policy into `out`.
+/// Refused with 1 to 10, 19, 23 and 24, with 12 if either map of `out` is short, and with 16 if there is no such policy.
+///
+/// ```
+/// use finnedscarf::{complete_maps, Maps, MapsMut};
+///
+/// // a star whose child is a text; its privileges are insert, delete, and change the text, of which the last is allowed
+/// let words = [1, 15, 2, 0, 8, 1, 14, 3, 4, 1, 0, 1, 0, 1, 1];
+/// let (mut allowed, mut forbidden) = ([0], [0]);
+/// let out = MapsMut { allowed: &mut allowed, forbidden: &mut forbidden };
+/// complete_maps(&words, Maps { allowed: &[0b100], forbidden: &[0b000] }, out)?;
+/// assert_eq!((allowed, forbidden), ([0b100], [0b011]));
+/// # Ok::<(), finnedscarf::Refusal>(())
+/// ```
+pub fn complete_maps(words: &[u16], maps: Maps, out: MapsMut) -> Result<(), Refusal> {
+    let Maps { allowed, forbidden } = maps;
+    border::complete_maps(words, allowed, forbidden, out.allowed, out.forbidden).done().map(|_| ())
+}
+
+/// Mends a policy that is kept as two bit maps, as [`mend`] does one of marks: writes the two maps of the mended policy into `out`, and gives
+/// the number of privileges that went from allowed to forbidden. Refused with 1 to 10, 12, 19, 23 and 24.
+pub fn mend_maps(words: &[u16], maps: Maps, out: MapsMut) -> Result<usize, Refusal> {
+    let Maps { allowed, forbidden } = maps;
+    border::mend_maps(words, allowed, forbidden, out.allowed, out.forbidden).done().map(|done| done.count)
+}
+
+/// Judges a mend that is proposed as two bit maps, as [`judge_mend`] does one of marks, and gives the number of changed privileges. Refused with
+/// 1 to 10, 13 to 16, 19, 23 and 24; of the proposed maps a wrong length of either is 13, and what is 23 or 24 of the policy's own is 14.
+pub fn judge_mend_maps(words: &[u16], maps: Maps, proposed: Maps) -> Result<usize, Refusal> {
+    let Maps { allowed, forbidden } = maps;
+    border::judge_mend_maps(words, allowed, forbidden, proposed.allowed, proposed.forbidden).done().map(|done| done.count)
 }
 
 impl Outcome {

@@ -3,6 +3,10 @@ ghost use Prim.Native.Nat.{_≤_};
 ghost use lib.ListN.{length};
 use completion::complete;
 use dtd::read_dtd;
+use maps::complete_maps;
+use maps::judge_maps;
+use maps::judge_mend_maps;
+use maps::mend_maps;
 use mending::mend;
 use proposing::judge_mend;
 use roles::complete_roles;
@@ -198,6 +202,138 @@ fn run_roles(case: usize) {
     );
 }
 
+// The line of a call that may write two maps.
+fn put_maps(case: usize, call: &[u8], answer: Answer, allowed: &[u8], forbidden: &[u8]) {
+    put_answer(case, call, answer);
+    put_run(allowed);
+    put_run(forbidden);
+    io::write_all(1, b"\n");
+}
+
+fn put_completed_maps(
+    case: usize,
+    words: &[u16],
+    allowed: &[u8],
+    forbidden: &[u8],
+    out_allowed: &mut [u8],
+    out_forbidden: &mut [u8],
+) {
+    let answer = complete_maps(words, allowed, forbidden, out_allowed, out_forbidden);
+    put_maps(case, b" complete_maps", answer, out_allowed, out_forbidden);
+}
+
+fn put_mended_maps(
+    case: usize,
+    words: &[u16],
+    allowed: &[u8],
+    forbidden: &[u8],
+    out_allowed: &mut [u8],
+    out_forbidden: &mut [u8],
+) {
+    let answer = mend_maps(words, allowed, forbidden, out_allowed, out_forbidden);
+    put_maps(case, b" mend_maps", answer, out_allowed, out_forbidden);
+}
+
+// The calls on a case of kind 3 that may write two maps. Each gets its own copies of them.
+fn put_results(
+    case: usize,
+    words: &[u16],
+    allowed: &[u8],
+    forbidden: &[u8],
+    lent_allowed: &[u8],
+    lent_forbidden: &[u8],
+) {
+    let mut completed_allowed = [0u8; 1024];
+    let mut completed_forbidden = [0u8; 1024];
+    let a = lend(lent_allowed, &mut completed_allowed);
+    let f = lend(lent_forbidden, &mut completed_forbidden);
+    put_completed_maps(
+        case,
+        words,
+        allowed,
+        forbidden,
+        &mut completed_allowed[0..a],
+        &mut completed_forbidden[0..f],
+    );
+    let mut mended_allowed = [0u8; 1024];
+    let mut mended_forbidden = [0u8; 1024];
+    let m = lend(lent_allowed, &mut mended_allowed);
+    let n = lend(lent_forbidden, &mut mended_forbidden);
+    put_mended_maps(
+        case,
+        words,
+        allowed,
+        forbidden,
+        &mut mended_allowed[0..m],
+        &mut mended_forbidden[0..n],
+    );
+}
+
+// The calls on a case of kind 3.
+fn put_pairs(
+    case: usize,
+    words: &[u16],
+    allowed: &[u8],
+    forbidden: &[u8],
+    lent_allowed: &[u8],
+    lent_forbidden: &[u8],
+    proposed_allowed: &[u8],
+    proposed_forbidden: &[u8],
+) {
+    put_line(
+        case,
+        b" verdict_maps",
+        judge_maps(words, allowed, forbidden),
+    );
+    put_results(
+        case,
+        words,
+        allowed,
+        forbidden,
+        lent_allowed,
+        lent_forbidden,
+    );
+    put_line(
+        case,
+        b" propose_maps",
+        judge_mend_maps(
+            words,
+            allowed,
+            forbidden,
+            proposed_allowed,
+            proposed_forbidden,
+        ),
+    );
+}
+
+// Kind 3: a table, an allowed and a forbidden map, the maps of the result as lent, a proposed pair of maps.
+fn run_maps(case: usize) {
+    let mut words = [0u16; 4096];
+    let w = read_words(next_length(), &mut words);
+    let mut allowed = [0u8; 1024];
+    let a = read_bytes(next_length(), &mut allowed);
+    let mut forbidden = [0u8; 1024];
+    let f = read_bytes(next_length(), &mut forbidden);
+    let mut lent_allowed = [0u8; 1024];
+    let m = read_bytes(next_length(), &mut lent_allowed);
+    let mut lent_forbidden = [0u8; 1024];
+    let n = read_bytes(next_length(), &mut lent_forbidden);
+    let mut proposed_allowed = [0u8; 1024];
+    let p = read_bytes(next_length(), &mut proposed_allowed);
+    let mut proposed_forbidden = [0u8; 1024];
+    let q = read_bytes(next_length(), &mut proposed_forbidden);
+    put_pairs(
+        case,
+        &words[0..w],
+        &allowed[0..a],
+        &forbidden[0..f],
+        &lent_allowed[0..m],
+        &lent_forbidden[0..n],
+        &proposed_allowed[0..p],
+        &proposed_forbidden[0..q],
+    );
+}
+
 // Makes the calls on the next case, if there is one of a known kind.
 fn run_case(case: usize) -> bool {
     let found = next_kind();
@@ -208,6 +344,7 @@ fn run_case(case: usize) -> bool {
         0 => run_policy(case),
         1 => run_dtd(case),
         2 => run_roles(case),
+        3 => run_maps(case),
         _ => return false,
     }
     true

@@ -15,6 +15,9 @@ use Rattle.mending.proofs.Answered.{mend-one}
 use Rattle.proposing.proofs.Answered.{propose-one}
 use Rattle.roles.specs.Answers.{RolesAnswer}
 use Rattle.roles.proofs.Roles.{roles-one}
+use Rattle.pairs.specs.Maps.{Maps}
+use Rattle.maps.specs.Answers.{JudgeMapsAnswer, ProposeMapsAnswer, CompleteMapsAnswer, MendMapsAnswer}
+use Rattle.maps.proofs.Agreed.{judge-maps-one, propose-maps-one, complete-maps-one, mend-maps-one}
 use Rattle.store.specs.Outcomes.{outcomeOf, CheckAnswer, ReadAnswer, Told}
 use Rattle.store.specs.declared.Outcome.{Outcome}
 
@@ -52,3 +55,18 @@ module _ {ws marks : List ℕ} {o p : Outcome} where
 
   pub propose-outcome : {proposed : List ℕ} → Told (ProposeAnswer ws marks proposed) o → Told (ProposeAnswer ws marks proposed) p → o ≡ p
   propose-outcome s t = told-one s t (propose-one (s .promised) (t .promised))
+
+module _ {ws : List ℕ} {m : Maps} {o p : Outcome} where
+  pub judge-maps-outcome : Told (JudgeMapsAnswer ws m) o → Told (JudgeMapsAnswer ws m) p → o ≡ p
+  judge-maps-outcome s t = told-one s t (judge-maps-one (s .promised) (t .promised))
+
+  pub complete-maps-outcome : {out x y : Maps} → Told (λ a. CompleteMapsAnswer ws m out a x) o → Told (λ a. CompleteMapsAnswer ws m out a y) p
+      → (o ≡ p) × (x ≡ y)
+  complete-maps-outcome s t = let one = complete-maps-one (s .promised) (t .promised) in (told-one s t (one .0), one .1)
+
+  pub mend-maps-outcome : {out x y : Maps} → Told (λ a. MendMapsAnswer ws m out a x) o → Told (λ a. MendMapsAnswer ws m out a y) p
+      → (o ≡ p) × (x ≡ y)
+  mend-maps-outcome s t = let one = mend-maps-one (s .promised) (t .promised) in (told-one s t (one .0), one .1)
+
+  pub propose-maps-outcome : {proposed : Maps} → Told (ProposeMapsAnswer ws m proposed) o → Told (ProposeMapsAnswer ws m proposed) p → o ≡ p
+  propose-maps-outcome s t = told-one s t (propose-maps-one (s .promised) (t .promised))

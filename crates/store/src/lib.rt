@@ -1,4 +1,4 @@
-// The seven calls for programs in C and Rust: runs and lengths in, an outcome out. include/finnedscarf.h declares them.
+// The eleven calls for programs in C and Rust: runs and lengths in, an outcome out. include/finnedscarf.h declares them.
 // Contracts cite specs/Outcomes for the outcome, and the definitions of the crate that makes the call for the answer.
 ghost use mathlib.Core.Path.{_≡_};
 ghost use Rattle.verdict.specs.Answers.{JudgeAnswer};
@@ -6,9 +6,15 @@ ghost use Rattle.completion.specs.Answers.{CompleteAnswer};
 ghost use Rattle.mending.specs.Answers.{MendAnswer};
 ghost use Rattle.proposing.specs.Answers.{ProposeAnswer};
 ghost use Rattle.roles.specs.Answers.{RolesAnswer};
+ghost use Rattle.pairs.specs.Maps.{maps};
+ghost use Rattle.maps.specs.Answers.{JudgeMapsAnswer, CompleteMapsAnswer, MendMapsAnswer, ProposeMapsAnswer};
 ghost use Rattle.store.specs.Outcomes.{outcomeOf, CheckAnswer, ReadAnswer, Told};
 use completion::complete;
 use dtd::read_dtd;
+use maps::complete_maps;
+use maps::judge_maps;
+use maps::judge_mend_maps;
+use maps::mend_maps;
 use mending::mend;
 use proposing::judge_mend;
 use roles::complete_roles;
@@ -120,4 +126,63 @@ pub extern "C" fn finnedscarf_judge_mend(words: &[u16], marks: &[u8], proposed: 
     ensures { λ r. ⌜ Told (ProposeAnswer (now (words .entry)) (now (marks .entry)) (now (proposed .entry))) r ⌝ }
 {
     outcome_of(judge_mend(words, marks, proposed))
+}
+
+// Judges a policy given as two bit maps: refuses with the table's numbers, 10, 23 or 24, or answers 0 with the first breach, zeros where there is none.
+#[no_mangle]
+pub extern "C" fn finnedscarf_judge_maps(words: &[u16], allowed: &[u8], forbidden: &[u8]) -> Outcome
+    ensures { λ r. ⌜ Told (JudgeMapsAnswer (now (words .entry)) (maps (now (allowed .entry)) (now (forbidden .entry)))) r ⌝ }
+{
+    outcome_of(judge_maps(words, allowed, forbidden))
+}
+
+// Completes such a policy with the least permission: refuses with the table's numbers, 10, 23, 24, 12 or 16 and leaves both result maps as they were, or
+// writes the maps of the decided marks into them and keeps their rest.
+#[no_mangle]
+pub extern "C" fn finnedscarf_complete_maps(
+    words: &[u16],
+    allowed: &[u8],
+    forbidden: &[u8],
+    out_allowed: &mut [u8],
+    out_forbidden: &mut [u8],
+) -> Outcome
+    ensures { λ r. ⌜ Told (λ a. CompleteMapsAnswer (now (words .entry)) (maps (now (allowed .entry)) (now (forbidden .entry))) (maps (now («out_allowed» .entry)) (now («out_forbidden» .entry))) a (maps (now («out_allowed» .exit)) (now («out_forbidden» .exit)))) r ⌝ }
+{
+    outcome_of(complete_maps(words, allowed, forbidden, out_allowed, out_forbidden))
+}
+
+// Mends such a policy: refuses with the table's numbers, 10, 23, 24 or 12 and leaves both result maps as they were, or writes the maps of what the rule
+// gives into them, keeps their rest, and counts the marks taken.
+#[no_mangle]
+pub extern "C" fn finnedscarf_mend_maps(
+    words: &[u16],
+    allowed: &[u8],
+    forbidden: &[u8],
+    out_allowed: &mut [u8],
+    out_forbidden: &mut [u8],
+) -> Outcome
+    ensures { λ r. ⌜ Told (λ a. MendMapsAnswer (now (words .entry)) (maps (now (allowed .entry)) (now (forbidden .entry))) (maps (now («out_allowed» .entry)) (now («out_forbidden» .entry))) a (maps (now («out_allowed» .exit)) (now («out_forbidden» .exit)))) r ⌝ }
+{
+    outcome_of(mend_maps(words, allowed, forbidden, out_allowed, out_forbidden))
+}
+
+// Judges a proposed mend of such a policy, two maps too: refuses with the table's numbers, 10, 23, 24 or 13 to 16, or accepts it with the number of
+// changed marks.
+#[no_mangle]
+pub extern "C" fn finnedscarf_judge_mend_maps(
+    words: &[u16],
+    allowed: &[u8],
+    forbidden: &[u8],
+    proposed_allowed: &[u8],
+    proposed_forbidden: &[u8],
+) -> Outcome
+    ensures { λ r. ⌜ Told (ProposeMapsAnswer (now (words .entry)) (maps (now (allowed .entry)) (now (forbidden .entry))) (maps (now («proposed_allowed» .entry)) (now («proposed_forbidden» .entry)))) r ⌝ }
+{
+    outcome_of(judge_mend_maps(
+        words,
+        allowed,
+        forbidden,
+        proposed_allowed,
+        proposed_forbidden,
+    ))
 }
