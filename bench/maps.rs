@@ -151,11 +151,12 @@ fn nothing(_: &[u16]) -> Outcome {
     Outcome::default()
 }
 
-/// The bytes of stack, the most of all inputs.
+/// The bytes of stack, the most of all inputs, those of the check of a table among them: the marks are on the stack while a table is searched.
 pub fn most_stack(make: &Make, call: Call) -> String {
     let empty = Make { name: "", check_table: nothing, ..*make };
     let on = |make, call| move |case: &mut MapsCase| run(make, call, case);
-    let cases = inputs(call).into_iter().flat_map(|input| all_spelt(&input));
+    let tables = inputs(call).into_iter().chain(inputs(Call::CheckTable));
+    let cases = tables.flat_map(|input| all_spelt(&input));
     let stacks = cases.map(|case| stack_of(on(make, call), on(&empty, Call::CheckTable), &case));
     stacks.max().unwrap_or(0).to_string()
 }
