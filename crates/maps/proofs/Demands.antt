@@ -1,12 +1,12 @@
 -- Demands 2 and 3 over maps: the verdict on a pair is that of its marks, and clean exactly if none of the three conditions is broken; completion is refused exactly
 -- if no fully decided pair that keeps the set bits passes, what it gives is the least such pair, and filling one more blank takes no permission back. Assumes nothing.
-use Prim.Native.Nat.{ℕ}
+use Prim.Native.Nat.{ℕ, _/_, _%_, _^_, _<_}
 use mathlib.Core.Path.{_≡_, sym, ap, _∙_}
 use mathlib.Core.Logic.{inl, inr}
 use mathlib.Core.List.{List}
 use native.Mathlib.Omega.{arith}
 use native.Mathlib.Decide.{ℕ-discrete}
-use lib.ListN.{getD, List·getD-eq-default}
+use lib.ListN.{length, getD, drop, List·getD-append, List·getD-eq-default}
 use Rattle.table.specs.Privilege.{privileges}
 use Rattle.table.proofs.Lists.{le-or-lt}
 use Rattle.policy.specs.Marks.{Fit}
@@ -17,7 +17,7 @@ use Rattle.verdict.specs.declared.Breach.{Breach}
 use Rattle.completion.specs.Answers.{CompleteAnswer, none, given}
 use Rattle.completion.specs.Completions.{Keeps, Completes, LeastCompletion}
 use Rattle.policy.proofs.Policies.{policy-not}
-use Rattle.pairs.specs.Maps.{Maps, IsSet, marksOf, mapsOf, Paired, MapPolicy, marksFor, Roomy, before}
+use Rattle.pairs.specs.Maps.{Maps, bitOf, IsSet, marksOf, mapsOf, Paired, MapPolicy, marksFor, Roomy, before}
 use Rattle.maps.specs.Answers.{blank, JudgeMapsAnswer, ResultAnswer, short, kept, written, CompleteMapsAnswer}
 use Rattle.maps.specs.Completions.{KeepsBits, CompletesMaps, LeastMaps}
 use Rattle.pairs.proofs.Paired.{maps-not}
@@ -99,14 +99,40 @@ complete-maps-least {ws} {m} {out} {after} {a} pol room (written {n = n} p r c z
     go (given {n = o} q l t e s) =
         least-pair z (least-maps (pol .paired) t) (k ∙ ap (λ (x : List ℕ). before (mapsOf x) out) (s ∙ blank-front (privileges ws) o))
 
+-- a pair that completes a fuller one completes the earlier one
+completes-fewer : {ws : List ℕ} {m k n : Maps} → KeepsBits m k → CompletesMaps ws k n → CompletesMaps ws m n
+completes-fewer f c = record {
+  paired = c .paired;
+  decided = c .decided;
+  keeps = record {
+    allowed = λ p s. c .keeps .allowed p (f .allowed p s);
+    forbidden = λ p s. c .keeps .forbidden p (f .forbidden p s);
+  };
+  clean = c .clean;
+}
+
 -- filling one more blank
 pub more-allows : {ws : List ℕ} {m k n o : Maps} → KeepsBits m k → LeastMaps ws m n → LeastMaps ws k o → (p : ℕ) → IsSet (n .allowed) p → IsSet (o .allowed) p
-more-allows {o = o} f c d = c .least o (record {
-  paired = d .completes .paired;
-  decided = d .completes .decided;
-  keeps = record {
-    allowed = λ p s. d .completes .keeps .allowed p (f .allowed p s);
-    forbidden = λ p s. d .completes .keeps .forbidden p (f .forbidden p s);
-  };
-  clean = d .completes .clean;
-})
+more-allows {o = o} f c d = c .least o (completes-fewer f (d .completes))
+
+-- a bit of the maps at the front of a result
+front-bit : {v : ℕ} {n : Maps} (out : Maps) → Paired v n → (p : ℕ) → p < v → bitOf (before n out .allowed) p ≡ bitOf (n .allowed) p
+front-bit {v} {n} out w p l =
+    ap (λ (x : ℕ). x / 2 ^ (p % 8) % 2)
+    (List·getD-append (n .allowed) (drop (length (n .allowed)) (out .allowed)) 0 (p / 8) (omega (arith, w .sized .allowed)))
+
+-- over two calls: where a fuller pair has a completion, so has the earlier one, and every permission that it is given the fuller one is given
+pub maps-fuller : {ws : List ℕ} {m k out lent x y : Maps} {a b : Answer} → MapPolicy ws m → MapPolicy ws k → KeepsBits m k
+    → Roomy (privileges ws) out → Roomy (privileges ws) lent → CompleteMapsAnswer ws k lent b y → b .number ≡ 0 → CompleteMapsAnswer ws m out a x
+    → (a .number ≡ 0) × ((p : ℕ) → p < privileges ws → IsSet (x .allowed) p → IsSet (y .allowed) p)
+maps-fuller {ws} {m} {k} {out} {lent} {x} {y} {a} {b} pol fuller keeps room wide later z earlier =
+    go (complete-maps-least fuller wide later) (complete-maps-least pol room earlier)
+  where
+    go : Completing ws k lent b y → Completing ws m out a x → (a .number ≡ 0) × ((p : ℕ) → p < privileges ws → IsSet (x .allowed) p → IsSet (y .allowed) p)
+    go (no-pair e h s) c = absurd (omega arith)
+    go (least-pair {n = o} e f s) (no-pair d h t) = absurd (h o (completes-fewer keeps (f .completes)))
+    go (least-pair {n = o} e f s) (least-pair {n = n} d g t) = (
+      d,
+      λ p l i. rw s (front-bit lent (f .completes .paired) p l
+          ∙ more-allows keeps g f p (sym (front-bit out (g .completes .paired) p l) ∙ rw t at i)),
+    )
