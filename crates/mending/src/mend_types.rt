@@ -150,7 +150,7 @@ pub fn mend_all(words: &[u16], order: &[u8; 256], m: &mut [u8]) -> usize
 }
 
 // Mends a copy of the marks of a policy.
-pub fn mend_copy(words: &[u16], marks: &[u8], order: &[u8; 256], m: &mut [u8]) -> usize
+pub(crate) fn mend_copy(words: &[u16], marks: &[u8], order: &[u8; 256], m: &mut [u8]) -> usize
     requires { ⌜ Policy (now words) (now marks) × BottomUp (now words) (now order) × (length (now m) ≡ length (now marks)) ⌝ }
     ensures { λ r. ⌜ Mends (now (words .entry)) (now (marks .entry)) (now (m .exit)) r ⌝ }
 {

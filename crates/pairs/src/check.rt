@@ -11,7 +11,7 @@ use table::Found;
 use table::check_ordered;
 
 // How many bytes a map of v privileges has.
-pub fn bytes_for(v: usize) -> usize
+pub(crate) fn bytes_for(v: usize) -> usize
     requires { ⌜ v ≤ 4096 ⌝ }
     ensures { λ r. ⌜ r ≡ bytesFor v ⌝ }
 {
@@ -19,7 +19,7 @@ pub fn bytes_for(v: usize) -> usize
 }
 
 // Is the bit of privilege p set?
-pub fn is_set(map: &[u8], p: usize) -> bool
+fn is_set(map: &[u8], p: usize) -> bool
     requires { ⌜ p / 8 < length (now map) ⌝ }
     ensures { λ r. ⌜ Tells (IsSet (now (map .entry)) p) r ⌝ }
 {
