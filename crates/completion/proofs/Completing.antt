@@ -7,7 +7,7 @@ use mathlib.Core.List.{List, _++_}
 use native.Mathlib.Omega.{arith}
 use lib.ListN.{length, getD, drop, List·getD-append}
 use Rattle.table.specs.Privilege.{privileges}
-use Rattle.policy.specs.Marks.{Allowed, Policy}
+use Rattle.policy.specs.Marks.{Allowed, Keeps, Policy}
 use Rattle.verdict.specs.Breaches.{spotOf, FirstBreach}
 use Rattle.verdict.specs.Answers.{breached}
 use Rattle.verdict.specs.declared.Answer.{Answer}
@@ -15,7 +15,7 @@ use Rattle.verdict.specs.declared.Breach.{Breach}
 use Rattle.policy.proofs.Policies.{policy-not, refused-one, refused-number}
 use Rattle.verdict.proofs.Firsts.{first-one, clean-none}
 use Rattle.verdict.proofs.Judged.{refusal-one}
-use Rattle.completion.specs.Completions.{Keeps, Completes, LeastCompletion}
+use Rattle.completion.specs.Completions.{Completes, LeastCompletion}
 use Rattle.completion.specs.Granted.{Granted}
 use Rattle.completion.specs.Answers.{CompleteAnswer, refused, short, none, given}
 use Rattle.completion.proofs.Least.{completes-clean, least-one, completes-earlier, fuller-allows}

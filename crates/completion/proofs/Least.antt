@@ -9,11 +9,11 @@ use lib.ListN.{getD}
 use lib.Seq.{ext-getD}
 use Rattle.table.specs.Privilege.{privileges}
 use Rattle.table.proofs.Lists.{le-or-lt}
-use Rattle.policy.specs.Marks.{Allowed, Forbidden, Policy}
+use Rattle.policy.specs.Marks.{Allowed, Forbidden, Keeps, Policy}
 use Rattle.verdict.specs.Conditions.{Clean}
 use Rattle.policy.proofs.Policies.{marked-within}
 use Rattle.verdict.proofs.Forced.{forces-mono, forced-below, clean-forces, forces-clean}
-use Rattle.completion.specs.Completions.{Keeps, Completes, LeastCompletion}
+use Rattle.completion.specs.Completions.{Completes, LeastCompletion}
 use Rattle.completion.specs.Granted.{Granted}
 use Rattle.completion.specs.steps.Passes.{Filled}
 use Rattle.policy.specs.steps.Writing.{Decision, allow, forbid}

@@ -1,16 +1,12 @@
 -- The least completion (demand 3; document 01, "Completing and mending"). Assumes nothing.
 use Prim.Native.Nat.{ℕ, _<_}
 use mathlib.Core.Path.{_≡_}
-use mathlib.Core.Logic.{_≢_, _⊎_}
+use mathlib.Core.Logic.{_⊎_}
 use mathlib.Core.List.{List}
-use lib.ListN.{length, getD}
+use lib.ListN.{length}
 use Rattle.table.specs.Privilege.{privileges}
-use Rattle.policy.specs.Marks.{Allowed, Forbidden}
+use Rattle.policy.specs.Marks.{Allowed, Forbidden, Keeps}
 use Rattle.verdict.specs.Conditions.{Clean}
-
--- n keeps every mark that is set in m
-abbrev pub Keeps : List ℕ → List ℕ → Type 0
-Keeps m n = (p : ℕ) → getD m p 0 ≢ 0 → getD n p 0 ≡ getD m p 0
 
 -- n is a fully decided policy that keeps every mark set in m and passes the three conditions
 pub record Completes (ws m n : List ℕ) : Type 0 where

@@ -9,13 +9,13 @@ use native.Mathlib.Decide.{ℕ-discrete}
 use lib.ListN.{length, getD, drop, List·getD-append, List·getD-eq-default}
 use Rattle.table.specs.Privilege.{privileges}
 use Rattle.table.proofs.Lists.{le-or-lt}
-use Rattle.policy.specs.Marks.{Fit}
+use Rattle.policy.specs.Marks.{Keeps, Fit}
 use Rattle.verdict.specs.Answers.{verdictOf, JudgeAnswer, judged}
 use Rattle.verdict.specs.Breaches.{Verdict}
 use Rattle.verdict.specs.declared.Answer.{Answer}
 use Rattle.verdict.specs.declared.Breach.{Breach}
 use Rattle.completion.specs.Answers.{CompleteAnswer, none, given}
-use Rattle.completion.specs.Completions.{Keeps, Completes, LeastCompletion}
+use Rattle.completion.specs.Completions.{Completes, LeastCompletion}
 use Rattle.policy.proofs.Policies.{policy-not}
 use Rattle.pairs.specs.Maps.{Maps, bitOf, IsSet, marksOf, mapsOf, Paired, MapPolicy, marksFor, Roomy, before}
 use Rattle.maps.specs.Answers.{blank, JudgeMapsAnswer, ResultAnswer, short, kept, written, CompleteMapsAnswer}

@@ -18,6 +18,10 @@ Forbidden marks p = getD marks p 0 ≡ 2
 abbrev pub Legal : List ℕ → ℕ → Type 0
 Legal marks p = getD marks p 0 ≤ 2
 
+-- n keeps every mark that is set in m
+abbrev pub Keeps : List ℕ → List ℕ → Type 0
+Keeps m n = (p : ℕ) → getD m p 0 ≢ 0 → getD n p 0 ≡ getD m p 0
+
 -- v marks, each 0, 1 or 2
 pub record Fit (v : ℕ) (marks : List ℕ) : Type 0 where
   pub size : length marks ≡ v

@@ -20,6 +20,7 @@ pub mod Cycles
 pub mod Rooted
 pub mod Stamps
 pub mod Facts
+pub mod Named
 pub mod Test
 pub mod HowMany
 pub mod Lex

@@ -7,6 +7,7 @@ pub mod Words
 pub mod Rule
 pub mod Below
 pub mod Privilege
+pub mod Named
 pub mod Formats
 pub mod Check
 pub mod Plus
