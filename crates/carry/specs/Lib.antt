@@ -1,0 +1,5 @@
+-- What the contracts of src/ cite, a file for each notion; steps holds what only the building blocks cite.
+pub mod Numbers
+pub mod Carries
+pub mod Answers
+pub mod steps

@@ -1,0 +1,48 @@
+-- Which edits are carried when, and what is known then. Assumes nothing.
+use Prim.Native.Nat.{ℕ, _<_}
+use mathlib.Core.Path.{_≡_}
+use mathlib.Core.List.{List}
+use lib.ListN.{length}
+use Rattle.table.specs.Words.{types}
+use Rattle.table.specs.Privilege.{privileges, firstPrivilege, Edit, text, insert, delete, exchange, replace, typeOf}
+use Rattle.carry.specs.Numbers.{newNumber}
+use Rattle.carry.specs.Carries.{Becomes, Move}
+
+-- p becomes q, by an old edit that is asked for
+pub record BecomesBy (Asked : Edit → Type 0) (old new numbers : List ℕ) (p q : ℕ) : Type 0 where
+  pub becomes : Becomes old new numbers p q
+  pub asked : Asked (becomes .before)
+
+-- the edits by their kinds: the change of the text of x; insert and delete at x; the replacements at x
+pub data TextAt (x : ℕ) : Edit → Type 0 where
+  text-at : TextAt x (text x)
+
+pub data EndsAt (x : ℕ) : Edit → Type 0 where
+  insert-at : EndsAt x (insert x)
+  delete-at : EndsAt x (delete x)
+
+pub data ReplacesAt (x : ℕ) : Edit → Type 0 where
+  exchange-at : ReplacesAt x (exchange x)
+  replace-at : (i j : ℕ) → ReplacesAt x (replace x i j)
+
+-- all edits at x, and those at the types before x
+abbrev pub OfType : ℕ → Edit → Type 0
+OfType x e = typeOf e ≡ x
+
+abbrev pub TypesTo : ℕ → Edit → Type 0
+TypesTo x e = typeOf e < x
+
+-- results for what can be carried
+pub record Moving (old marks new numbers out lost : List ℕ) : Type 0 where
+  pub move : Move old marks new numbers
+  pub out-size : length out ≡ privileges new
+  pub lost-size : length lost ≡ privileges old
+
+-- the old type x with its first privilege, where it is not gone: the new type y with its own
+pub record MovingAt (old marks new numbers out lost : List ℕ) (x first y onto : ℕ) : Type 0 where
+  pub moving : Moving old marks new numbers out lost
+  pub type : x < types old
+  pub first-is : first ≡ firstPrivilege old x
+  pub y-is : y ≡ newNumber numbers x
+  pub there : y < types new
+  pub onto-is : onto ≡ firstPrivilege new y
