@@ -11,6 +11,9 @@ pub const POLICY: &[usize] = &[10, 11];
 /// The same of a policy in two bit maps.
 pub const MAPS: &[usize] = &[10, 23, 24];
 
+/// The numbers of the new table's checks (request 1) in their order.
+pub const NEW_TABLE: &[usize] = &[101, 102, 103, 104, 105, 106, 107, 119, 108, 109];
+
 /// A call on cases of one kind.
 pub struct Call<C: 'static> {
     pub name: &'static str,

@@ -1,6 +1,7 @@
 // Cases as a stream, and what the calls answer to them: a case is its kind, one byte, and then the runs of that kind.
 
 use crate::calls::{Call, Told};
+use crate::carry_case::{self, CarryCase};
 use crate::dtd_case::{self, DtdCase};
 use crate::fail;
 use crate::format::Format;
@@ -14,6 +15,7 @@ pub enum Case {
     Dtd(DtdCase),
     Roles(RolesCase),
     Maps(MapsCase),
+    Carry(CarryCase),
 }
 
 impl Case {
@@ -23,6 +25,7 @@ impl Case {
             dtd_case::KIND => Case::Dtd(DtdCase::read(stream)),
             roles_case::KIND => Case::Roles(RolesCase::read(stream)),
             maps_case::KIND => Case::Maps(MapsCase::read(stream)),
+            carry_case::KIND => Case::Carry(CarryCase::read(stream)),
             kind => fail(&format!("there is no kind {}", kind)),
         }
     }
@@ -45,16 +48,21 @@ impl Case {
                 stream.push(maps_case::KIND);
                 case.write(stream);
             }
+            Case::Carry(case) => {
+                stream.push(carry_case::KIND);
+                case.write(stream);
+            }
         }
     }
 
-    /// Whether it has a table whose word 0 is that of this format.
+    /// Whether it has a table, of two the old one, whose word 0 is that of this format.
     pub fn has(&self, format: Format) -> bool {
         match self {
             Case::Policy(case) => case.has(format),
             Case::Dtd(_) => false,
             Case::Roles(case) => case.has(format),
             Case::Maps(case) => case.has(format),
+            Case::Carry(case) => case.has(format),
         }
     }
 
@@ -62,7 +70,7 @@ impl Case {
     pub fn file(&self) -> Option<Vec<u8>> {
         match self {
             Case::Policy(case) => Some(case.file()),
-            Case::Dtd(_) | Case::Roles(_) | Case::Maps(_) => None,
+            Case::Dtd(_) | Case::Roles(_) | Case::Maps(_) | Case::Carry(_) => None,
         }
     }
 
@@ -73,6 +81,7 @@ impl Case {
             Case::Dtd(case) => tell(&dtd_case::CALLS, case),
             Case::Roles(case) => tell(&roles_case::CALLS, case),
             Case::Maps(case) => tell(&maps_case::CALLS, case),
+            Case::Carry(case) => tell(&carry_case::CALLS, case),
         }
     }
 }

@@ -1,18 +1,20 @@
-// How often each call gave each number and each condition, and how often each situation of requests 5 to 9 came.
+// How often each call gave each number and each condition, and how often each situation of requests 1 and 5 to 9 came.
 
 use crate::answers::Answer;
-use crate::calls::{Call, Told, POLICY, TABLE};
+use crate::calls::{Call, Told, NEW_TABLE, POLICY, TABLE};
+use crate::carry_case::{self, CarryCase};
 use crate::cases::{read_cases, Case};
 use crate::dtd_case;
 use crate::format::Format;
 use crate::maps_case::{self, MapsCase};
 use crate::policy_case::{self, PolicyCase};
 use crate::roles_case::{self, RolesCase};
-use crate::situations::{maps, Situations, OF_CHAINS, OF_COUNTS, OF_FORMAT_TWO, OF_ROLES};
+use crate::situations::{carrying, maps, Situations, OF_CHAINS, OF_COUNTS, OF_FORMAT_TWO, OF_ROLES};
 use std::collections::BTreeMap;
 
 /// The numbers in the order of the checks.
-const NUMBERS: &[&[usize]] = &[&[20, 21, 22], TABLE, POLICY, &[23, 24], &[12, 13, 14, 15, 16]];
+const NUMBERS: &[&[usize]] =
+    &[&[20, 21, 22], TABLE, POLICY, &[23, 24], NEW_TABLE, &[17, 18], &[12, 13, 14, 15, 16]];
 
 const CONDITIONS: [usize; 3] = [1, 2, 3];
 
@@ -108,6 +110,7 @@ impl Counts {
         rows.extend(roles_case::CALLS.iter().map(Row::of));
         rows.push(Row::new(A_ROLE, &[roles_case::OF_ROLES], false));
         rows.extend(maps_case::CALLS.iter().map(Row::of));
+        rows.extend(carry_case::CALLS.iter().map(Row::of));
         Counts { rows, total: 0 }
     }
 
@@ -179,6 +182,8 @@ pub struct Overview {
     roles: Found<RolesCase>,
     maps: Found<MapsCase>,
     large_maps: Found<MapsCase>,
+    carrying: Found<CarryCase>,
+    large_carrying: Found<CarryCase>,
 }
 
 impl Overview {
@@ -187,7 +192,19 @@ impl Overview {
         let [format_two, counts, chains] = [OF_FORMAT_TWO, OF_COUNTS, OF_CHAINS].map(Found::new);
         let roles = Found::new(OF_ROLES);
         let [maps, large_maps] = [maps::USUAL, maps::LARGE].map(Found::new);
-        let mut overview = Overview { all, of_two, format_two, counts, chains, roles, maps, large_maps };
+        let [carrying, large_carrying] = [carrying::USUAL, carrying::LARGE].map(Found::new);
+        let mut overview = Overview {
+            all,
+            of_two,
+            format_two,
+            counts,
+            chains,
+            roles,
+            maps,
+            large_maps,
+            carrying,
+            large_carrying,
+        };
         cases.for_each(|case| overview.add(&case));
         overview
     }
@@ -204,6 +221,7 @@ impl Overview {
             Case::Dtd(_) => (),
             Case::Roles(roles) => self.roles.add(roles),
             Case::Maps(maps) => self.add_maps(maps),
+            Case::Carry(carry) => self.add_carry(carry),
         }
     }
 
@@ -216,6 +234,11 @@ impl Overview {
     fn add_maps(&mut self, maps: &MapsCase) {
         self.maps.add(maps);
         self.large_maps.add(maps);
+    }
+
+    fn add_carry(&mut self, carry: &CarryCase) {
+        self.carrying.add(carry);
+        self.large_carrying.add(carry);
     }
 
     /// The fewest of the numbers and conditions that the calls made can give.
@@ -253,11 +276,22 @@ impl Overview {
         self.large_maps.fewest()
     }
 
+    /// The fewest of the situations of request 1.
+    pub fn fewest_of_carrying(&self) -> usize {
+        self.carrying.fewest()
+    }
+
+    /// The fewest of those with tables as large as there may be.
+    pub fn fewest_of_large_carrying(&self) -> usize {
+        self.large_carrying.fewest()
+    }
+
     fn text(&self) -> String {
-        let Overview { all, of_two, format_two, counts, chains, roles, maps, large_maps } = self;
-        let tables = format!("{}\nof format 2\n{}", all.text(), of_two.text());
-        let of_policies = [format_two.text(), counts.text(), chains.text()];
-        let of_others = [roles.text(), maps.text(), large_maps.text()];
+        let tables = format!("{}\nof format 2\n{}", self.all.text(), self.of_two.text());
+        let of_policies = [self.format_two.text(), self.counts.text(), self.chains.text()];
+        let of_maps = [self.maps.text(), self.large_maps.text()];
+        let of_carrying = [self.carrying.text(), self.large_carrying.text()];
+        let of_others = [self.roles.text(), of_maps.join("\n"), of_carrying.join("\n")];
         format!("{}\n{}\n{}", tables, of_policies.join("\n"), of_others.join("\n"))
     }
 }

@@ -1,5 +1,7 @@
 // Making cases: the same ones for the same seed.
 
+mod aims;
+pub mod carrying;
 mod chains;
 pub mod chance;
 pub mod cycles;
@@ -81,10 +83,14 @@ fn policies(seed: u64, count: usize) -> impl Iterator<Item = PolicyCase> {
 }
 
 /// So many policies of format 1, then so many DTD texts, then so many policies of format 2 or of another word 0, then so many calls on roles,
-/// and then so many on bit maps.
-pub fn cases(seed: u64, [count, dtds, second_format, roles, maps]: [usize; 5]) -> impl Iterator<Item = Case> {
+/// then so many on bit maps, and then so many that carry marks to a new table.
+pub fn cases(
+    seed: u64,
+    [count, dtds, second_format, roles, maps, carry]: [usize; 6],
+) -> impl Iterator<Item = Case> {
     let of_one = policies(seed, count).map(Case::Policy).chain(dtds::cases(seed, dtds).map(Case::Dtd));
     let of_two = second_format::cases(seed, second_format).map(Case::Policy);
     let (roles, maps) = (roles::cases(seed, roles), maps::cases(seed, maps));
-    of_one.chain(of_two).chain(roles.map(Case::Roles)).chain(maps.map(Case::Maps))
+    let carry = carrying::cases(seed, carry).map(Case::Carry);
+    of_one.chain(of_two).chain(roles.map(Case::Roles)).chain(maps.map(Case::Maps)).chain(carry)
 }

@@ -3,6 +3,8 @@
 
 pub mod answers;
 pub mod calls;
+pub mod carry_case;
+pub mod carrying;
 pub mod cases;
 pub mod chain;
 pub mod completing;
@@ -40,7 +42,7 @@ use self_check::self_check;
 use std::io::{Read, Write};
 use table::{HEADER, MOST_ENTRIES, MOST_TYPES, RECORD};
 
-const USAGE: &str = "modes: judge | cases SEED COUNT DTDS SECOND_FORMAT ROLES MAPS | answers | count \
+const USAGE: &str = "modes: judge | cases SEED COUNT DTDS SECOND_FORMAT ROLES MAPS CARRY | answers | count \
     | files FOLDER | random SEED COUNT SECOND_FORMAT FILE... | reports | count files | dtd | count dtds SEED COUNT \
     | documents SEED COUNT FOLDER | texts SEED COUNT FOLDER | self";
 

@@ -1,5 +1,6 @@
 // The second program's check of itself.
 
+mod carrying;
 mod chains;
 mod counts;
 pub mod dtds;
@@ -19,6 +20,7 @@ use crate::chain::Chain;
 use crate::fail;
 use crate::format::Format;
 use crate::making::chance::Random;
+use carrying::self_carrying;
 use chains::self_chains;
 use counts::self_counts;
 use dtds::self_dtds;
@@ -104,6 +106,7 @@ pub fn self_check(seed: u64, count: usize) -> String {
         self_counts(seed),
         self_roles(seed, count),
         self_maps(seed, count),
+        self_carrying(seed, count),
         self_dtds(seed, count),
     ]
     .concat()

@@ -1,12 +1,14 @@
-// What requests 5 to 9 bring besides numbers and conditions: the situations that a case can be in, by name.
+// What requests 1 and 5 to 9 bring besides numbers and conditions: the situations that a case can be in, by name.
 
 mod bits;
 mod breaches;
+pub mod carrying;
 mod chains;
 mod completions;
 mod counts;
 pub mod maps;
 mod mends;
+mod moves;
 mod policy;
 mod proposals;
 pub mod roles;

@@ -1,11 +1,12 @@
 // Holds the exported library to the second program on fresh cases: each call, all of its answer, and every lent run afterwards.
-// second/soak builds it and runs it with SEED, COUNT, DTDS, SECOND_FORMAT, ROLES, MAPS and the folder where a case that differs is kept.
+// second/soak builds it and runs it with SEED, COUNT, DTDS, SECOND_FORMAT, ROLES, MAPS, CARRY and the folder where a case that differs is kept.
 
 #[path = "../bindings/rust/src/border.rs"]
 mod border;
 
 use second::answers::{Answer, Breach, Outcome};
 use second::calls::{Call, Told};
+use second::carry_case::{self, CarryCase};
 use second::cases::{write_cases, Case};
 use second::chain::Chain;
 use second::counting::Counts;
@@ -66,6 +67,13 @@ const MAPS: [fn(&MapsCase) -> Told; maps_case::CALLS.len()] = [
     },
 ];
 
+/// The same on cases of kind 4.
+const CARRY: [fn(&CarryCase) -> Told; carry_case::CALLS.len()] = [|case| {
+    case.writing(|old_words, old_marks, new_words, new_numbers, out, lost| {
+        outcome_of(border::carry_marks(old_words, old_marks, new_words, new_numbers, out, lost))
+    })
+}];
+
 /// Makes each call on a case by both and counts the answers, up to the first difference.
 fn compare<C: Clone + PartialEq>(
     calls: &[Call<C>],
@@ -93,6 +101,7 @@ fn compare_case(case: &Case, counts: &mut Counts) -> Result<(), String> {
         Case::Dtd(case) => compare(&dtd_case::CALLS, &DTD, case, counts),
         Case::Roles(case) => compare(&roles_case::CALLS, &ROLES, case, counts),
         Case::Maps(case) => compare(&maps_case::CALLS, &MAPS, case, counts),
+        Case::Carry(case) => compare(&carry_case::CALLS, &CARRY, case, counts),
     }
 }
 
@@ -102,7 +111,7 @@ fn fail(what: &str) -> ! {
 }
 
 fn number(text: &str) -> u64 {
-    text.parse().unwrap_or_else(|_| fail("SEED, COUNT, DTDS, SECOND_FORMAT, ROLES and MAPS are numbers"))
+    text.parse().unwrap_or_else(|_| fail("SEED, COUNT, DTDS, SECOND_FORMAT, ROLES, MAPS and CARRY are numbers"))
 }
 
 /// Keeps a case as a stream, and says where.
@@ -113,7 +122,7 @@ fn keep(case: Case, path: &str) -> String {
     }
 }
 
-fn soak(seed: u64, sizes: [usize; 5], folder: &str) {
+fn soak(seed: u64, sizes: [usize; 6], folder: &str) {
     let mut counts = Counts::new();
     for (k, case) in making::cases(seed, sizes).enumerate() {
         if let Err(difference) = compare_case(&case, &mut counts) {
@@ -130,10 +139,10 @@ fn main() {
     let arguments: Vec<String> = std::env::args().skip(1).collect();
     let arguments: Vec<&str> = arguments.iter().map(String::as_str).collect();
     match arguments[..] {
-        [seed, count, dtds, second_format, roles, maps, folder] => {
-            let sizes = [count, dtds, second_format, roles, maps].map(|text| number(text) as usize);
+        [seed, count, dtds, second_format, roles, maps, carry, folder] => {
+            let sizes = [count, dtds, second_format, roles, maps, carry].map(|text| number(text) as usize);
             soak(number(seed), sizes, folder)
         }
-        _ => fail("soak SEED COUNT DTDS SECOND_FORMAT ROLES MAPS FOLDER"),
+        _ => fail("soak SEED COUNT DTDS SECOND_FORMAT ROLES MAPS CARRY FOLDER"),
     }
 }

@@ -3,6 +3,7 @@
 mod faults;
 mod large;
 
+use super::aims::Aims;
 use super::chance::Random;
 use super::damage::spoil_table;
 use super::files::bare;
@@ -130,25 +131,6 @@ fn refused_case(r: &mut Random, format: Format, number: usize) -> MapsCase {
     }
 }
 
-/// Situations, and how often each came so far.
-struct Aims(Vec<(&'static str, usize)>);
-
-impl Aims {
-    fn new() -> Aims {
-        Aims((USUAL.names)().into_iter().map(|name| (name, 0)).collect())
-    }
-
-    /// The first of those that came least often.
-    fn least(&self) -> &'static str {
-        self.0.iter().min_by_key(|aim| aim.1).expect("there are situations").0
-    }
-
-    fn add(&mut self, case: &MapsCase) {
-        let found = (USUAL.found)(case);
-        self.0.iter_mut().filter(|aim| found.contains(&aim.0)).for_each(|aim| aim.1 += 1);
-    }
-}
-
 /// A small case in this situation: of each base some are tried.
 fn aimed_case(r: &mut Random, situation: &str) -> MapsCase {
     loop {
@@ -167,7 +149,7 @@ fn aimed_case(r: &mut Random, situation: &str) -> MapsCase {
 pub fn cases(seed: u64, count: usize) -> impl Iterator<Item = MapsCase> {
     let mut r = Random(seed);
     let refusals = &TABLE[1..];
-    let mut aims = Aims::new();
+    let mut aims = Aims::new(USUAL);
     (0..count).map(move |k| {
         let case = match k % 8 {
             n @ 0..=1 => refused_case(&mut r, FORMATS[n], refusals[k / 8 % refusals.len()]),

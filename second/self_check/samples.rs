@@ -36,13 +36,13 @@ const S5_LINES: &str = "table 0 11\nverdict 2 4 0 2 5 0 1 2\ncomplete none\nmend
 
 /// The same schema with its types in alphabetical order: draft, final, held, job, layer, name,
 /// range, state are 0 to 7. Privilege 0 is the text of final; the others follow in their order.
-const ALPHABETICAL: [u16; 39] = [
+pub const ALPHABETICAL: [u16; 39] = [
     1, 39, 8, 3, 8, 7, 32, 11, 0, 0, 0, 1, 0, 0, 0, 0, 0, 4, 1, 0, 2, 3, 1, 1, 0, 4, 1, 0, 4, 3, 3, 4, 4, 5,
     6, 7, 0, 2, 1,
 ];
 
 /// S1 to S9 in that order of types.
-const ALPHABETICAL_SAMPLES: [Sample; 9] = [
+pub const ALPHABETICAL_SAMPLES: [Sample; 9] = [
     ("00000000000", CLEAN, Some("22222222222"), 0, "00000000000"),
     ("01102000000", ([1, 3, 0, 0, 4, 1], &[]), None, 1, "01202000000"),
     ("01100000000", CLEAN, Some("11111111111"), 0, "01100000000"),

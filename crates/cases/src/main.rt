@@ -1,6 +1,7 @@
 // Makes the calls on a stream of cases and prints a line for each: its answer, and each run that it may write. second/README.md has the form of both.
 ghost use Prim.Native.Nat.{_≤_};
 ghost use lib.ListN.{length};
+use carry::carry_marks;
 use completion::complete;
 use dtd::read_dtd;
 use maps::complete_maps;
@@ -202,11 +203,11 @@ fn run_roles(case: usize) {
     );
 }
 
-// The line of a call that may write two maps.
-fn put_maps(case: usize, call: &[u8], answer: Answer, allowed: &[u8], forbidden: &[u8]) {
+// The line of a call that may write two results.
+fn put_pair(case: usize, call: &[u8], answer: Answer, first: &[u8], second: &[u8]) {
     put_answer(case, call, answer);
-    put_run(allowed);
-    put_run(forbidden);
+    put_run(first);
+    put_run(second);
     io::write_all(1, b"\n");
 }
 
@@ -219,7 +220,7 @@ fn put_completed_maps(
     out_forbidden: &mut [u8],
 ) {
     let answer = complete_maps(words, allowed, forbidden, out_allowed, out_forbidden);
-    put_maps(case, b" complete_maps", answer, out_allowed, out_forbidden);
+    put_pair(case, b" complete_maps", answer, out_allowed, out_forbidden);
 }
 
 fn put_mended_maps(
@@ -231,7 +232,7 @@ fn put_mended_maps(
     out_forbidden: &mut [u8],
 ) {
     let answer = mend_maps(words, allowed, forbidden, out_allowed, out_forbidden);
-    put_maps(case, b" mend_maps", answer, out_allowed, out_forbidden);
+    put_pair(case, b" mend_maps", answer, out_allowed, out_forbidden);
 }
 
 // The calls on a case of kind 3 that may write two maps. Each gets its own copies of them.
@@ -334,6 +335,45 @@ fn run_maps(case: usize) {
     );
 }
 
+// The call on a case of kind 4.
+fn put_carried(
+    case: usize,
+    old_words: &[u16],
+    old_marks: &[u8],
+    new_words: &[u16],
+    new_numbers: &[u16],
+    out: &mut [u8],
+    lost: &mut [u8],
+) {
+    let answer = carry_marks(old_words, old_marks, new_words, new_numbers, out, lost);
+    put_pair(case, b" carry", answer, out, lost);
+}
+
+// Kind 4: an old table, its marks, a new table, the new numbers, a result and its lost bytes as lent.
+fn run_carry(case: usize) {
+    let mut old_words = [0u16; 4096];
+    let w = read_words(next_length(), &mut old_words);
+    let mut old_marks = [0u8; 8192];
+    let m = read_bytes(next_length(), &mut old_marks);
+    let mut new_words = [0u16; 4096];
+    let v = read_words(next_length(), &mut new_words);
+    let mut new_numbers = [0u16; 2048];
+    let k = read_words(next_length(), &mut new_numbers);
+    let mut out = [0u8; 8192];
+    let n = read_bytes(next_length(), &mut out);
+    let mut lost = [0u8; 8192];
+    let l = read_bytes(next_length(), &mut lost);
+    put_carried(
+        case,
+        &old_words[0..w],
+        &old_marks[0..m],
+        &new_words[0..v],
+        &new_numbers[0..k],
+        &mut out[0..n],
+        &mut lost[0..l],
+    );
+}
+
 // Makes the calls on the next case, if there is one of a known kind.
 fn run_case(case: usize) -> bool {
     let found = next_kind();
@@ -345,6 +385,7 @@ fn run_case(case: usize) -> bool {
         1 => run_dtd(case),
         2 => run_roles(case),
         3 => run_maps(case),
+        4 => run_carry(case),
         _ => return false,
     }
     true
