@@ -1,4 +1,4 @@
-// Measures the eleven calls of the proved library, all but `read_dtd` against the second program and `fast`. bench/run builds and runs it; the modes:
+// Measures the twelve calls of the proved library, all but `read_dtd` against the second program and `fast`. bench/run builds and runs it; the modes:
 //   check               reads a stream of cases (second/README.md) and compares all makes
 //   time                nanoseconds a call
 //   growth              the same for tables that double
@@ -15,6 +15,7 @@
 //                       CALL may be complete_each, the single call on each of the roles
 
 mod calls;
+mod carry;
 mod dtd;
 mod fast;
 mod inputs;
@@ -22,6 +23,7 @@ mod maps;
 mod plain;
 #[path = "../bindings/rust/src/border.rs"]
 mod proved;
+mod revisions;
 mod roles;
 mod rounds;
 mod stack;
@@ -66,7 +68,7 @@ fn compare_on(case: &Case, call: Call, at: &str) {
 fn check() {
     let mut stream = Vec::new();
     std::io::stdin().read_to_end(&mut stream).unwrap_or_else(|_| fail("cannot read the input"));
-    let plain::Cases { policies, texts, shows, maps } = plain::cases_of(&stream);
+    let plain::Cases { policies, texts, shows, maps, moves } = plain::cases_of(&stream);
     for (k, case) in policies.iter().enumerate() {
         CALLS.iter().for_each(|&call| compare_on(case, call, &format!("case {}", k)));
     }
@@ -80,6 +82,7 @@ fn check() {
     println!("equal: {} policies with five calls each, and {} measured calls", policies.len(), own);
     let own = maps::check(&maps);
     println!("equal: {} policies as bit maps with four calls each, and {} measured calls", maps.len(), own);
+    println!("equal: {} moves to a revised schema, and {} measured ones", moves.len(), carry::check(&moves));
     println!("equal: {} shows of several roles, and {} measured ones", shows.len(), roles::check(&shows));
     println!("equal: {} DTD texts, and {} measured ones", texts.len(), dtd::check(&texts));
 }
@@ -120,11 +123,13 @@ fn time() {
     }
     roles::time();
     maps::time();
+    carry::time();
 }
 
 fn growth() {
     println!("ns a call, proved and fast, least of the rounds\n");
-    let names: Vec<&str> = CALLS.map(Call::name).into_iter().chain(maps::CALLS.map(maps::name)).collect();
+    let names = CALLS.map(Call::name).into_iter().chain(maps::CALLS.map(maps::name)).chain([carry::NAME]);
+    let names: Vec<&str> = names.collect();
     println!("| Table | {} |", names.join(" | "));
     println!("|---|{}", "---|".repeat(names.len()));
     for size in 0..doubling(Call::Mend).len() {
@@ -135,6 +140,7 @@ fn growth() {
             line += &format!(" {:.0}, {:.0} |", found[0].0, found[1].0);
         }
         maps::CALLS.iter().for_each(|&call| line += &maps::growth(call, size));
+        line += &carry::growth(size);
         println!("| {} |{}", doubling(Call::Mend)[size].name, line);
     }
 }
@@ -171,6 +177,7 @@ fn stacks() {
         let found = MAKES.each_ref().map(|make| maps::most_stack(make, call));
         println!("| {} | {} |", maps::name(call), found.join(" | "));
     }
+    println!("| {} | {} |", carry::NAME, MAKES.each_ref().map(carry::most_stack).join(" | "));
     println!("| {} | {} |", dtd::NAME, MAKES.each_ref().map(dtd::most_stack).join(" | "));
 }
 
@@ -181,6 +188,7 @@ fn list() {
         }
     }
     maps::list();
+    carry::list();
     dtd::list();
 }
 
@@ -226,6 +234,7 @@ fn main() {
         ["shows"] => roles::list(),
         ["tables"] => tables(),
         ["count", make, dtd::NAME, text, times] => dtd::count(make, text, times),
+        ["count", make, carry::NAME, revision, times] => carry::count(make, revision, times),
         ["count", make, roles::NAME, show, times] => roles::count(make, show, times),
         ["count", make, roles::EACH, show, times] => roles::count_each(make, show, times),
         ["count", make, call, input, times] => match maps::call_of(call) {

@@ -1,5 +1,5 @@
-// The calls, of three makes: proved, fast and second. Five take a table and a policy, four of these also a policy as two bit maps, and one a table
-// and the policies of all roles; the last reads DTD text, and has no fast make.
+// The calls, of three makes: proved, fast and second. Five take a table and a policy, four of these also a policy as two bit maps, one a table and
+// the policies of all roles, and one a policy and a revised table; the last reads DTD text, and has no fast make.
 
 use crate::{fast, plain, proved};
 
@@ -16,6 +16,7 @@ pub type CompleteRoles = fn(&[u16], &[u8], &mut [u16], &mut [u8]) -> Outcome;
 pub type JudgeMaps = fn(&[u16], &[u8], &[u8]) -> Outcome;
 pub type WriteMaps = fn(&[u16], &[u8], &[u8], &mut [u8], &mut [u8]) -> Outcome;
 pub type JudgeMendMaps = fn(&[u16], &[u8], &[u8], &[u8], &[u8]) -> Outcome;
+pub type CarryMarks = fn(&[u16], &[u8], &[u16], &[u16], &mut [u8], &mut [u8]) -> Outcome;
 pub type ReadDtd = fn(&[u8], &mut [u16]) -> Outcome;
 
 pub struct Make {
@@ -30,6 +31,7 @@ pub struct Make {
     pub complete_maps: WriteMaps,
     pub mend_maps: WriteMaps,
     pub judge_mend_maps: JudgeMendMaps,
+    pub carry_marks: CarryMarks,
     pub read_dtd: Option<ReadDtd>,
 }
 
@@ -46,6 +48,7 @@ pub const MAKES: [Make; 3] = [
         complete_maps: proved::complete_maps,
         mend_maps: proved::mend_maps,
         judge_mend_maps: proved::judge_mend_maps,
+        carry_marks: proved::carry_marks,
         read_dtd: Some(proved::read_dtd),
     },
     Make {
@@ -60,6 +63,7 @@ pub const MAKES: [Make; 3] = [
         complete_maps: fast::complete_maps,
         mend_maps: fast::mend_maps,
         judge_mend_maps: fast::judge_mend_maps,
+        carry_marks: fast::carry_marks,
         read_dtd: None,
     },
     Make {
@@ -74,6 +78,7 @@ pub const MAKES: [Make; 3] = [
         complete_maps: plain::complete_maps,
         mend_maps: plain::mend_maps,
         judge_mend_maps: plain::judge_mend_maps,
+        carry_marks: plain::carry_marks,
         read_dtd: Some(plain::read_dtd),
     },
 ];

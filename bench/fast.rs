@@ -1,5 +1,5 @@
 // The calls but `read_dtd` written by hand for speed, in plain Rust: what the proved code is measured against. fast/roles.rs has that on all roles,
-// and fast/maps.rs those on bit maps.
+// fast/maps.rs those on bit maps, and fast/carry.rs that on a revised schema.
 // The steps are those of the proved code: a table check that puts the types in order, one bottom-up pass for whether something is forbidden below
 // each type, Warshall's closure for each choice, the chain of the first breach and a count of what is forbidden below its child, a completion that
 // opens downwards, a mend in ascending order with the closure made anew for each mark taken. What is done by hand: a table is accepted by a pass over
@@ -8,10 +8,12 @@
 // checked and compared many at a time, read 16 at a time, each mark's bit gathered by a multiplication, and written eight at a time; the format is
 // asked once a call, and what goes by it is compiled for each. Nothing is allocated, and nothing is unsafe.
 
+mod carry;
 mod maps;
 mod roles;
 
 use crate::calls::Outcome;
+pub use carry::carry_marks;
 pub use maps::{complete_maps, judge_maps, judge_mend_maps, mend_maps};
 pub use roles::complete_roles;
 use std::mem::replace;

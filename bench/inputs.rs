@@ -12,9 +12,9 @@ pub const SEQUENCE: u16 = 2;
 pub const CHOICE: u16 = 3;
 const STAR: u16 = 4;
 
-const UNSET: u8 = 0;
-const ALLOWED: u8 = 1;
-const FORBIDDEN: u8 = 2;
+pub const UNSET: u8 = 0;
+pub const ALLOWED: u8 = 1;
+pub const FORBIDDEN: u8 = 2;
 
 /// Cases that are run in turn; a time is the mean of one call on them.
 pub struct Input {
@@ -31,7 +31,7 @@ pub struct Type {
 
 /// A format is the word 0 that names it.
 pub const ONE: u16 = 1;
-const TWO: u16 = 2;
+pub const TWO: u16 = 2;
 
 fn privileges_of(format: u16, it: &Type) -> usize {
     let n = it.children.len();
@@ -45,7 +45,7 @@ fn privileges_of(format: u16, it: &Type) -> usize {
     }
 }
 
-fn encode(format: u16, types: &[Type], root: usize) -> Vec<u16> {
+pub fn encode(format: u16, types: &[Type], root: usize) -> Vec<u16> {
     let (e, c) = (types.len(), types.iter().map(|it| it.children.len()).sum::<usize>());
     let v: usize = types.iter().map(|it| privileges_of(format, it)).sum();
     let header = [format as usize, 8 + 3 * e + c, e, root, 8, c, 8 + 3 * e, v];
@@ -135,7 +135,7 @@ fn next_ones(t: u16) -> Vec<u16> {
 }
 
 /// A largest table, E 256, C 1,024, V 4,096, with two types that are not reached: 255, which is nobody's child, and its child 254.
-fn unreached() -> Vec<u16> {
+pub fn unreached() -> Vec<u16> {
     let mut types = decode(&sized(ONE, 254, 1008, 17));
     types.push(Type { kind: EMPTY, children: Vec::new() });
     types.push(Type { kind: SEQUENCE, children: (239..=254).collect() });
@@ -144,7 +144,7 @@ fn unreached() -> Vec<u16> {
 
 // ---------------------------------------------------------------- marks
 
-fn v_of(words: &[u16]) -> usize {
+pub fn v_of(words: &[u16]) -> usize {
     words[7] as usize
 }
 
@@ -175,7 +175,7 @@ fn chance(seed: u64) -> impl FnMut() -> usize {
 }
 
 /// Marks by chance, out of an urn.
-fn by_chance(v: usize, urn: &[u8], seed: u64) -> Vec<u8> {
+pub fn by_chance(v: usize, urn: &[u8], seed: u64) -> Vec<u8> {
     let mut next = chance(seed);
     (0..v).map(|_| urn[next() % urn.len()]).collect()
 }
@@ -194,7 +194,7 @@ fn case(words: Vec<u16>, marks: Vec<u8>, proposed: Vec<u8>) -> Case {
 // ---------------------------------------------------------------- renumbering
 
 /// The numbers below e in an order by chance.
-fn shuffled(e: usize, seed: u64) -> Vec<usize> {
+pub fn shuffled(e: usize, seed: u64) -> Vec<usize> {
     let mut next = chance(seed);
     let mut order: Vec<usize> = (0..e).collect();
     (1..e).rev().for_each(|k| order.swap(k, next() % (k + 1)));
@@ -209,16 +209,23 @@ fn reordered(format: u16, types: &[Type], order: &[usize], marks: &[u8]) -> Vec<
     order.iter().flat_map(own).copied().collect()
 }
 
+/// Types as they stand in an order, each with its rule and the order of its children; and the new number of each.
+pub fn in_order(types: &[Type], order: &[usize]) -> (Vec<Type>, Vec<u16>) {
+    let number = |old: usize| order.iter().position(|&t| t == old).unwrap_or(0) as u16;
+    let numbers: Vec<u16> = (0..types.len()).map(number).collect();
+    let children = |t: usize| types[t].children.iter().map(|&x| numbers[x as usize]).collect();
+    let moved = |&t: &usize| Type { kind: types[t].kind, children: children(t) };
+    (order.iter().map(moved).collect(), numbers)
+}
+
 /// A case with its types renumbered by chance, the root among them; each keeps its rule, the order of its children, and its marks.
 fn renumbered(Case { words, marks, proposed, .. }: Case) -> Case {
     let types = decode(&words);
     let order = shuffled(types.len(), 2);
-    let number = |old: u16| order.iter().position(|&t| t == old as usize).unwrap_or(0) as u16;
-    let children = |t: usize| types[t].children.iter().map(|&x| number(x)).collect();
-    let moved = |&t: &usize| Type { kind: types[t].kind, children: children(t) };
-    let moved: Vec<Type> = order.iter().map(moved).collect();
+    let (moved, numbers) = in_order(&types, &order);
     let kept = |marks: &[u8]| reordered(words[0], &types, &order, marks);
-    case(encode(words[0], &moved, number(words[3]) as usize), kept(&marks), kept(&proposed))
+    let root = numbers[words[3] as usize] as usize;
+    case(encode(words[0], &moved, root), kept(&marks), kept(&proposed))
 }
 
 fn renumbered_input(Input { name, cases }: Input) -> Input {
@@ -228,13 +235,13 @@ fn renumbered_input(Input { name, cases }: Input) -> Input {
 
 // ---------------------------------------------------------------- inputs
 
-const SAMPLE: [u16; 39] = [
+pub const SAMPLE: [u16; 39] = [
     1, 39, 8, 0, 8, 7, 32, 11, 4, 1, 0, 2, 3, 1, 1, 0, 4, 1, 0, 4, 3, 3, 4, 0, 0, 7, 0, 0, 7, 1, 0,
     7, 1, 2, 3, 4, 5, 6, 7,
 ];
 
 /// S1 to S9.
-const SAMPLES: [&str; 9] = [
+pub const SAMPLES: [&str; 9] = [
     "00000000000",
     "11020000000",
     "11000000000",
@@ -247,7 +254,7 @@ const SAMPLES: [&str; 9] = [
 ];
 
 /// Policies of the sample schema in format 2; six are broken in a way that format 1 does not have.
-const SAMPLES_OF_TWO: [&str; 9] = [
+pub const SAMPLES_OF_TWO: [&str; 9] = [
     "112000000000000",
     "001020000000000",
     "111020000000000",
@@ -260,14 +267,14 @@ const SAMPLES_OF_TWO: [&str; 9] = [
 ];
 
 /// The name of an input, by the format of its table.
-fn named(name: &str, format: u16) -> String {
+pub fn named(name: &str, format: u16) -> String {
     match format {
         ONE => name.to_string(),
         _ => format!("{}-{}", name, format),
     }
 }
 
-fn digits(text: &str) -> Vec<u8> {
+pub fn digits(text: &str) -> Vec<u8> {
     text.bytes().map(|byte| byte - b'0').collect()
 }
 
@@ -368,7 +375,7 @@ fn scattered(words: Vec<u16>, seed: u64) -> Case {
 }
 
 /// A largest table, V 4,096: as many choices of 16 as there may be.
-fn largest_table(format: u16) -> Vec<u16> {
+pub fn largest_table(format: u16) -> Vec<u16> {
     sized(format, 256, 1024, if format == ONE { 17 } else { 16 })
 }
 

@@ -2,10 +2,11 @@
 
 use crate::calls::{Case, Outcome};
 use second::answers::{answer, Answer, Breach};
+use second::carry_case::CarryCase;
 use second::dtd_case::DtdCase;
 use second::maps_case::MapsCase;
 use second::roles_case::RolesCase;
-use second::{cases, completing, conditions, dtd, maps, mending, roles, table};
+use second::{carrying, cases, completing, conditions, dtd, maps, mending, roles, table};
 
 fn outcome_of(outcome: second::answers::Outcome) -> Outcome {
     let Answer { number, place, count, breach } = answer(outcome);
@@ -72,6 +73,17 @@ pub fn judge_mend_maps(
     outcome_of(maps::judge_mend_maps(words, allowed, forbidden, proposed_allowed, proposed_forbidden))
 }
 
+pub fn carry_marks(
+    old_words: &[u16],
+    old_marks: &[u8],
+    new_words: &[u16],
+    new_numbers: &[u16],
+    out: &mut [u8],
+    lost: &mut [u8],
+) -> Outcome {
+    outcome_of(carrying::carry_marks(old_words, old_marks, new_words, new_numbers, out, lost))
+}
+
 pub fn read_dtd(text: &[u8], out: &mut [u16]) -> Outcome {
     outcome_of(dtd::read_dtd(text, out))
 }
@@ -83,6 +95,7 @@ pub struct Cases {
     pub texts: Vec<DtdCase>,
     pub shows: Vec<RolesCase>,
     pub maps: Vec<MapsCase>,
+    pub moves: Vec<CarryCase>,
 }
 
 pub fn cases_of(stream: &[u8]) -> Cases {
@@ -93,6 +106,7 @@ pub fn cases_of(stream: &[u8]) -> Cases {
             cases::Case::Dtd(case) => all.texts.push(case),
             cases::Case::Roles(case) => all.shows.push(case),
             cases::Case::Maps(case) => all.maps.push(case),
+            cases::Case::Carry(case) => all.moves.push(case),
         }
     }
     all

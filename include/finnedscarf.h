@@ -1,14 +1,15 @@
 /*
  * Finnedscarf: checks a schema table, reads one from DTD text, judges a policy of edits on it, completes the policy, or those of all roles of
- * a show at once, mends it, and judges a mend that somebody proposes. What is done to one policy is done as well to one that is kept as two bit
- * maps. The eleven calls are proved to answer as said here for every input; nothing checks this header against them but tests/store.
+ * a show at once, mends it, judges a mend that somebody proposes, and carries its marks over when the schema is revised. Judging, completing and
+ * mending one policy and judging a mend are there as well for one that is kept as two bit maps. The twelve calls are proved to answer as said here
+ * for every input; nothing checks this header against them but tests/store.
  *
  * Build the library with `rt staticlib store` and link target/staticlib/libstore.a (x86-64 Linux). For C99 or C++11, or later.
  *
  * What is lent
  *   Each run is a pointer to its first item and the number of its items. With length 0 the pointer may be any, also NULL; else it is never
- *   NULL. What a call may write, which is `numbers`, `out`, `out_allowed` and `out_forbidden`, overlaps no other run of the call; all other runs
- *   are only read. Nothing else may write to a lent run during the call. A call keeps nothing: no pointer, no state, no memory that must be
+ *   NULL. What a call may write, which is `numbers`, `out`, `lost`, `out_allowed` and `out_forbidden`, overlaps no other run of the call; all other
+ *   runs are only read. Nothing else may write to a lent run during the call. A call keeps nothing: no pointer, no state, no memory that must be
  *   freed.
  *
  * The table
@@ -61,10 +62,16 @@ enum {
     FINNEDSCARF_FORBIDDEN = 2
 };
 
+/* What stands in the list of new numbers for a type that is gone. */
+enum {
+    FINNEDSCARF_GONE = 65535
+};
+
 /*
  * The number of an answer. Checks are made in the order of these lines, 20 to 22 before 1, and 19 between 7 and 8; but of 20 and 21 the earlier
  * byte decides, then the lower number. The place is the lowest at which the check fails, 0 where none is named. Where all roles are completed at
- * once, 11 and 16 are numbers of a role and not of the call: they come after 12. Over maps 23 and 24 stand in place of 11.
+ * once, 11 and 16 are numbers of a role and not of the call: they come after 12. Over maps 23 and 24 stand in place of 11. Where marks are carried
+ * over, 1 to 9 and 19 are the old table's; those of the new table are raised by 100, to 101 to 109 and 119, and come after 11.
  */
 enum {
     FINNEDSCARF_DONE = 0,             /* done; place: V for a table that is checked or read, else 0 */
@@ -85,8 +92,12 @@ enum {
     FINNEDSCARF_MARK = 11,            /* a mark above 2; place: privilege */
     FINNEDSCARF_BOTH = 23,            /* a privilege whose bit is set in both maps; place: privilege */
     FINNEDSCARF_SPARE = 24,           /* a spare bit set in either map */
+    FINNEDSCARF_NEW_TABLE = 100,      /* no number by itself: what is added to 1 to 9 or 19 if the new table has that fault; place: as there */
+    FINNEDSCARF_NUMBERS_LENGTH = 17,  /* the list of new numbers is not as long as the old table has types */
+    FINNEDSCARF_NEW_NUMBER = 18,      /* a new number that is neither 65535 nor below the new E, or that is not 65535 and an earlier type has too;
+                                         place: old type */
     FINNEDSCARF_SHORT = 12,           /* result shorter than V, of all roles than V for each, or than the table that is read; a result map shorter
-                                         than V / 8 bytes, rounded up */
+                                         than V / 8 bytes, rounded up; of marks carried over: `out` than the new V, or `lost` than the old V */
     FINNEDSCARF_PROPOSED_LENGTH = 13, /* proposed marks not V long; a proposed map not V / 8 bytes long, rounded up */
     FINNEDSCARF_PROPOSED_MARK = 14,   /* a proposed mark above 2, or a privilege whose bit is set in both proposed maps; place: privilege; else
                                          a spare bit set in either of these; place: 0 */
@@ -212,6 +223,23 @@ finnedscarf_outcome finnedscarf_judge_mend_maps(const uint16_t *words, size_t wo
                                                 size_t proposed_forbidden_length);
 
 /*
+ * Carries the marks of a policy over to a revised schema: the old table, a policy over it, the new table, and for each old type its number in the
+ * new table, or FINNEDSCARF_GONE; no other number stands there twice. The tables may be in different formats.
+ * An edit is of a kind, text, insert, delete or replace, and names types: its own, and the child that is inserted or deleted, or the one that is
+ * replaced and then the one that takes its place, which for a star's replace are both the star's child. An old privilege and a new one correspond
+ * if their edits are of one kind and each type that the old one names has as its new number the type that the new one names there. So none
+ * corresponds to two.
+ * Answers 0 and nothing else, with a mark for each new privilege in the first bytes of `out`, as many as the new V: that of the old privilege that
+ * corresponds to it, or unset if there is none; and with a byte for each old privilege in the first bytes of `lost`, as many as the old V: 1 if it
+ * was set and no new privilege corresponds to it, else 0. Or 1 to 9 or 19 for the old table, 10 or 11 for the old marks, 101 to 109 or 119 for the
+ * new table, 17 or 18 for the list, or 12, in this order. A refusal leaves `out` and `lost` as they were; else their bytes behind those are kept.
+ */
+finnedscarf_outcome finnedscarf_carry_marks(const uint16_t *old_words, size_t old_words_length, const uint8_t *old_marks,
+                                            size_t old_marks_length, const uint16_t *new_words, size_t new_words_length,
+                                            const uint16_t *new_numbers, size_t new_numbers_length, uint8_t *out, size_t out_length,
+                                            uint8_t *lost, size_t lost_length);
+
+/*
  * The library itself never gets NULL, not even with length 0. So the names above reach the functions below, in a call and where an
  * address is taken: each makes the exported call of its name, and lends the address of an item of its own for an empty run.
  */
@@ -318,6 +346,19 @@ static inline finnedscarf_outcome finnedscarf_judge_mend_maps_lent(const uint16_
                                        FINNEDSCARF_LENT(proposed_forbidden, no_byte));
 }
 
+static inline finnedscarf_outcome finnedscarf_carry_marks_lent(const uint16_t *old_words, size_t old_words_length, const uint8_t *old_marks,
+                                                               size_t old_marks_length, const uint16_t *new_words,
+                                                               size_t new_words_length, const uint16_t *new_numbers,
+                                                               size_t new_numbers_length, uint8_t *out, size_t out_length, uint8_t *lost,
+                                                               size_t lost_length)
+{
+    uint16_t no_word = 0;
+    uint8_t no_byte = 0;
+    return finnedscarf_carry_marks(FINNEDSCARF_LENT(old_words, no_word), FINNEDSCARF_LENT(old_marks, no_byte),
+                                   FINNEDSCARF_LENT(new_words, no_word), FINNEDSCARF_LENT(new_numbers, no_word),
+                                   FINNEDSCARF_LENT(out, no_byte), FINNEDSCARF_LENT(lost, no_byte));
+}
+
 #undef FINNEDSCARF_LENT
 
 #define finnedscarf_check_table finnedscarf_check_table_lent
@@ -331,6 +372,7 @@ static inline finnedscarf_outcome finnedscarf_judge_mend_maps_lent(const uint16_
 #define finnedscarf_complete_maps finnedscarf_complete_maps_lent
 #define finnedscarf_mend_maps finnedscarf_mend_maps_lent
 #define finnedscarf_judge_mend_maps finnedscarf_judge_mend_maps_lent
+#define finnedscarf_carry_marks finnedscarf_carry_marks_lent
 
 #ifdef __cplusplus
 }

@@ -31,6 +31,18 @@ static const char *number_text(size_t number)
     case FINNEDSCARF_MARK: return "11";
     case FINNEDSCARF_BOTH: return "23";
     case FINNEDSCARF_SPARE: return "24";
+    case FINNEDSCARF_NEW_TABLE + FINNEDSCARF_FORMAT: return "101";
+    case FINNEDSCARF_NEW_TABLE + FINNEDSCARF_LAYOUT: return "102";
+    case FINNEDSCARF_NEW_TABLE + FINNEDSCARF_KIND: return "103";
+    case FINNEDSCARF_NEW_TABLE + FINNEDSCARF_COUNT: return "104";
+    case FINNEDSCARF_NEW_TABLE + FINNEDSCARF_STRETCH: return "105";
+    case FINNEDSCARF_NEW_TABLE + FINNEDSCARF_BOUNDS: return "106";
+    case FINNEDSCARF_NEW_TABLE + FINNEDSCARF_TWICE: return "107";
+    case FINNEDSCARF_NEW_TABLE + FINNEDSCARF_ON_CYCLE: return "119";
+    case FINNEDSCARF_NEW_TABLE + FINNEDSCARF_ORPHAN: return "108";
+    case FINNEDSCARF_NEW_TABLE + FINNEDSCARF_TOTAL: return "109";
+    case FINNEDSCARF_NUMBERS_LENGTH: return "17";
+    case FINNEDSCARF_NEW_NUMBER: return "18";
     case FINNEDSCARF_SHORT: return "12";
     case FINNEDSCARF_PROPOSED_LENGTH: return "13";
     case FINNEDSCARF_PROPOSED_MARK: return "14";
@@ -135,11 +147,12 @@ static void put_run(const uint8_t *run, size_t length)
         put_mark(run[k]);
 }
 
-static void put_map(const uint8_t *map, size_t length)
+/* Bytes that are no marks. */
+static void put_bytes(const uint8_t *run, size_t length)
 {
     putchar(' ');
     for (size_t k = 0; k < length; k++)
-        printf("%02x", map[k]);
+        printf("%02x", run[k]);
 }
 
 static void put_word(uint16_t word)
@@ -177,8 +190,8 @@ static void put_written(size_t number, const char *call, finnedscarf_outcome o, 
 static void put_written_maps(size_t number, const char *call, finnedscarf_outcome o, const struct maps *out)
 {
     put_outcome(number, call, o);
-    put_map(out->allowed, out->allowed_length);
-    put_map(out->forbidden, out->forbidden_length);
+    put_bytes(out->allowed, out->allowed_length);
+    put_bytes(out->forbidden, out->forbidden_length);
     putchar('\n');
 }
 
@@ -262,6 +275,24 @@ static void run_maps(size_t number)
                                          proposed.forbidden_length));
 }
 
+/* The call on a case of kind 4. */
+static void run_carry(size_t number)
+{
+    static uint16_t old_words[MOST], new_words[MOST], new_numbers[MOST];
+    static uint8_t old_marks[MOST], out[MOST], lost[MOST];
+    size_t w = read_words(old_words);
+    size_t m = read_bytes(old_marks);
+    size_t x = read_words(new_words);
+    size_t r = read_words(new_numbers);
+    size_t n = read_bytes(out);
+    size_t l = read_bytes(lost);
+
+    put_outcome(number, "carry", finnedscarf_carry_marks(old_words, w, old_marks, m, new_words, x, new_numbers, r, out, n, lost, l));
+    put_run(out, n);
+    put_bytes(lost, l);
+    putchar('\n');
+}
+
 int main(void)
 {
     for (size_t number = 0; more(); number++) {
@@ -270,6 +301,7 @@ int main(void)
         case 1: run_dtd(number); break;
         case 2: run_roles(number); break;
         case 3: run_maps(number); break;
+        case 4: run_carry(number); break;
         default: exit(2);
         }
     }

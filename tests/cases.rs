@@ -1,8 +1,8 @@
 //! Makes the calls on a stream of cases through the safe wrapper and prints a line for each (second/README.md has the form of both).
 //! Conditions and marks are printed by the wrapper's names for them, so that each name is held to its value.
 
-use finnedscarf::{check_table, complete, complete_maps, complete_roles, judge_maps, judge_mend, judge_mend_maps, judge_policy, mend};
-use finnedscarf::{mend_maps, read_dtd, Breach, Condition, Maps, MapsMut, Refusal, RoleRefusal, Roles, ALLOWED, FORBIDDEN, UNSET};
+use finnedscarf::{carry_marks, check_table, complete, complete_maps, complete_roles, judge_maps, judge_mend, judge_mend_maps, judge_policy};
+use finnedscarf::{mend, mend_maps, read_dtd, Breach, Condition, Maps, MapsMut, Refusal, RoleRefusal, Roles, ALLOWED, FORBIDDEN, UNSET};
 use std::io::{self, BufWriter, Read, Write};
 
 struct Stream(Vec<u8>, usize);
@@ -110,15 +110,16 @@ fn written(call: &str, lent: &[u8], make: impl Fn(&mut [u8]) -> Result<Done, Ref
     line(call, make(&mut out)) + " " + &run_text(&out)
 }
 
-fn map_text(map: &[u8]) -> String {
-    map.iter().map(|byte| format!("{byte:02x}")).collect()
+/// Bytes that are no marks.
+fn bytes_text(run: &[u8]) -> String {
+    run.iter().map(|byte| format!("{byte:02x}")).collect()
 }
 
 /// The line of a call that may write two maps, of which it gets its own copies.
 fn written_maps(call: &str, lent: &TwoMaps, make: impl Fn(MapsMut) -> Result<Done, Refusal>) -> String {
     let (mut allowed, mut forbidden) = (lent.allowed.clone(), lent.forbidden.clone());
     let answer = make(MapsMut { allowed: &mut allowed, forbidden: &mut forbidden });
-    format!("{} {} {}", line(call, answer), map_text(&allowed), map_text(&forbidden))
+    format!("{} {} {}", line(call, answer), bytes_text(&allowed), bytes_text(&forbidden))
 }
 
 fn counted(count: usize) -> Done {
@@ -186,6 +187,15 @@ fn maps_lines(stream: &mut Stream) -> Vec<String> {
     ]
 }
 
+/// The call on a case of kind 4.
+fn carry_lines(stream: &mut Stream) -> Vec<String> {
+    let (old_words, old_marks) = (stream.words(), stream.bytes());
+    let (new_words, new_numbers) = (stream.words(), stream.words());
+    let (mut out, mut lost) = (stream.bytes(), stream.bytes());
+    let answer = carry_marks(&old_words, &old_marks, &new_words, &new_numbers, &mut out, &mut lost).map(|()| Done::default());
+    vec![format!("{} {} {}", line("carry", answer), run_text(&out), bytes_text(&lost))]
+}
+
 fn main() -> io::Result<()> {
     let mut stream = Stream(Vec::new(), 0);
     io::stdin().read_to_end(&mut stream.0)?;
@@ -197,6 +207,7 @@ fn main() -> io::Result<()> {
             1 => dtd_lines(&mut stream),
             2 => roles_lines(&mut stream),
             3 => maps_lines(&mut stream),
+            4 => carry_lines(&mut stream),
             kind => panic!("there is no kind {kind}"),
         };
         for line in lines {

@@ -1,6 +1,7 @@
 /*
  * Lends NULL for empty runs: for each run of each call, and for several at once, on a table that has no privilege and on one that has one. Each
- * call is made by its name and by its address, and must answer as document 01 has it. It is C and C++; as C++ it lends empty vectors too.
+ * call is made by its name and by its address, and must answer as documents 01 and 02 have it. It is C and C++; as C++ it lends empty vectors
+ * too.
  *
  * tests/store links it with --wrap for each BORDER below: what the header calls by that name is then `__wrap_name`, which sees to it that no
  * NULL comes so far, and `__real_name` is the library's own.
@@ -78,6 +79,13 @@ BORDER(finnedscarf_judge_mend_maps,
        (words, words_length, allowed, allowed_length, forbidden, forbidden_length, proposed_allowed, proposed_allowed_length,
         proposed_forbidden, proposed_forbidden_length),
        words && allowed && forbidden && proposed_allowed && proposed_forbidden)
+BORDER(finnedscarf_carry_marks,
+       (const uint16_t *old_words, size_t old_words_length, const uint8_t *old_marks, size_t old_marks_length, const uint16_t *new_words,
+        size_t new_words_length, const uint16_t *new_numbers, size_t new_numbers_length, uint8_t *out, size_t out_length, uint8_t *lost,
+        size_t lost_length),
+       (old_words, old_words_length, old_marks, old_marks_length, new_words, new_words_length, new_numbers, new_numbers_length, out,
+        out_length, lost, lost_length),
+       old_words && old_marks && new_words && new_numbers && out && lost)
 #ifdef __cplusplus
 }
 #endif
@@ -101,6 +109,8 @@ static writes_maps *const complete_maps = &finnedscarf_complete_maps;
 static writes_maps *const mend_maps = finnedscarf_mend_maps;
 static finnedscarf_outcome (*const judge_mend_maps)(const uint16_t *, size_t, const uint8_t *, size_t, const uint8_t *, size_t,
                                                     const uint8_t *, size_t, const uint8_t *, size_t) = &finnedscarf_judge_mend_maps;
+static finnedscarf_outcome (*const carry_marks)(const uint16_t *, size_t, const uint8_t *, size_t, const uint16_t *, size_t,
+                                                const uint16_t *, size_t, uint8_t *, size_t, uint8_t *, size_t) = finnedscarf_carry_marks;
 
 /* Two tables of one type, which is empty and has no privilege, or a text and has one: V is the table's place here. The same as DTD text. */
 static const uint16_t tables[2][11] = {{1, 11, 1, 0, 8, 0, 11, 0, 0, 0, 0}, {1, 11, 1, 0, 8, 0, 11, 1, 1, 0, 0}};
@@ -378,6 +388,55 @@ static void try_maps(int call, int address, size_t v, int empty, struct runs non
     }
 }
 
+/* The runs of carrying marks over that are empty, as a sum. */
+enum { OLD_WORDS = 1, OLD_MARKS = 2, NEW_WORDS = 4, NEW_NUMBERS = 8, CARRIED = 16, LOST = 32 };
+
+static size_t carry_number(size_t old_v, size_t new_v, int empty)
+{
+    if (empty & OLD_WORDS)
+        return FINNEDSCARF_FORMAT;
+    if (old_v && empty & OLD_MARKS)
+        return FINNEDSCARF_MARKS_LENGTH;
+    if (empty & NEW_WORDS)
+        return FINNEDSCARF_NEW_TABLE + FINNEDSCARF_FORMAT;
+    if (empty & NEW_NUMBERS)
+        return FINNEDSCARF_NUMBERS_LENGTH;
+    if ((new_v && empty & CARRIED) || (old_v && empty & LOST))
+        return FINNEDSCARF_SHORT;
+    return FINNEDSCARF_DONE;
+}
+
+/*
+ * Carries a mark over, or none, in a call in which some runs are empty: those of `none`, which are all empty. The old type is the new one, or is
+ * gone; where it was a text and is none now, its mark is lost too.
+ */
+static void try_carry(int address, size_t old_v, size_t new_v, int gone, int empty, struct runs none)
+{
+    const uint16_t numbers[1] = {(uint16_t)(gone ? FINNEDSCARF_GONE : 0)};
+    uint8_t out[2] = {9, 9}, lost[2] = {9, 9};
+    const uint16_t *old_words = empty & OLD_WORDS ? none.words : tables[old_v], *new_words = empty & NEW_WORDS ? none.words : tables[new_v];
+    const uint16_t *new_numbers = empty & NEW_NUMBERS ? none.words : numbers;
+    const uint8_t *old_marks = empty & OLD_MARKS ? none.marks : allowed;
+    uint8_t *out_lent = empty & CARRIED ? none.third : out, *lost_lent = empty & LOST ? none.third : lost;
+    size_t w = empty & OLD_WORDS ? 0 : 11, m = empty & OLD_MARKS ? 0 : old_v, x = empty & NEW_WORDS ? 0 : 11;
+    size_t r = empty & NEW_NUMBERS ? 0 : 1, n = empty & CARRIED ? 0 : 2, l = empty & LOST ? 0 : 2;
+    finnedscarf_outcome o =
+        address ? carry_marks(old_words, w, old_marks, m, new_words, x, new_numbers, r, out_lent, n, lost_lent, l)
+                : finnedscarf_carry_marks(old_words, w, old_marks, m, new_words, x, new_numbers, r, out_lent, n, lost_lent, l);
+
+    size_t number = carry_number(old_v, new_v, empty);
+    int kept = old_v && new_v && !gone;
+    int first = number == 0 && new_v ? (kept ? FINNEDSCARF_ALLOWED : FINNEDSCARF_UNSET) : 9, first_lost = number == 0 && old_v ? !kept : 9;
+    int right = out[0] == first && out[1] == 9 && lost[0] == first_lost && lost[1] == 9;
+    if (o.number != number || o.place || o.count || has_breach(o) || !right) {
+        printf("tests/null: carry_marks by %s, V %zu and %zu, the type %s, empty runs %d: number %zu, place %zu, results %d %d and %d %d, where "
+               "%zu, 0, %d 9 and %d 9 and no breach is right\n",
+               address ? "address" : "name", old_v, new_v, gone ? "gone" : "kept", empty, o.number, o.place, out[0], out[1], lost[0],
+               lost[1], number, first, first_lost);
+        exit(1);
+    }
+}
+
 /* The table that is read, and the numbers of the roles, are empty runs of words that a call may write. */
 static size_t try_all(struct runs none, uint16_t *no_words)
 {
@@ -400,6 +459,12 @@ static size_t try_all(struct runs none, uint16_t *no_words)
             for (size_t v = 0; v < 2; v++)
                 for (int empty = 0; empty < maps_calls[call].sums; empty++, tried++)
                     try_maps(call, address, v, empty, none);
+    for (int address = 0; address < 2; address++)
+        for (size_t old_v = 0; old_v < 2; old_v++)
+            for (size_t new_v = 0; new_v < 2; new_v++)
+                for (int gone = 0; gone < 2; gone++)
+                    for (int empty = 0; empty < 64; empty++, tried++)
+                        try_carry(address, old_v, new_v, gone, empty, none);
     return tried;
 }
 

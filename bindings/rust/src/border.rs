@@ -119,6 +119,32 @@ pub fn judge_mend_maps(words: &[u16], allowed: &[u8], forbidden: &[u8], proposed
     }
 }
 
+pub fn carry_marks(
+    old_words: &[u16],
+    old_marks: &[u8],
+    new_words: &[u16],
+    new_numbers: &[u16],
+    out: &mut [u8],
+    lost: &mut [u8],
+) -> Outcome {
+    unsafe {
+        finnedscarf_carry_marks(
+            old_words.as_ptr(),
+            old_words.len(),
+            old_marks.as_ptr(),
+            old_marks.len(),
+            new_words.as_ptr(),
+            new_words.len(),
+            new_numbers.as_ptr(),
+            new_numbers.len(),
+            out.as_mut_ptr(),
+            out.len(),
+            lost.as_mut_ptr(),
+            lost.len(),
+        )
+    }
+}
+
 #[link(name = "store", kind = "static")]
 extern "C" {
     fn finnedscarf_check_table(words: *const u16, words_length: usize) -> Outcome;
@@ -201,5 +227,19 @@ extern "C" {
         proposed_allowed_length: usize,
         proposed_forbidden: *const u8,
         proposed_forbidden_length: usize,
+    ) -> Outcome;
+    fn finnedscarf_carry_marks(
+        old_words: *const u16,
+        old_words_length: usize,
+        old_marks: *const u8,
+        old_marks_length: usize,
+        new_words: *const u16,
+        new_words_length: usize,
+        new_numbers: *const u16,
+        new_numbers_length: usize,
+        out: *mut u8,
+        out_length: usize,
+        lost: *mut u8,
+        lost_length: usize,
     ) -> Outcome;
 }

@@ -1,6 +1,7 @@
 //! Safe calls of Finnedscarf, the proved policy checker: checks a schema table, reads one from DTD text, judges a policy of edits on it,
-//! completes the policy, or those of all roles of a show at once, mends it, and judges a mend that somebody proposes. What is done to one
-//! policy is done as well to one that is kept as two bit maps ([`Maps`]).
+//! completes the policy, or those of all roles of a show at once, mends it, judges a mend that somebody proposes, and carries its marks over
+//! when the schema is revised. Judging, completing and mending one policy and judging a mend are there as well for one that is kept as two bit
+//! maps ([`Maps`]).
 //!
 //! `words` is the schema table and `marks` the policy, one byte for each of its V privileges: [`UNSET`], [`ALLOWED`] or [`FORBIDDEN`].
 //! `include/finnedscarf.h` has the layout of the table, the table of a DTD text and the numbers of the privileges. Word 0 of a table is its
@@ -53,6 +54,12 @@ pub const UNSET: u8 = 0;
 pub const ALLOWED: u8 = 1;
 /// The mark of a forbidden privilege.
 pub const FORBIDDEN: u8 = 2;
+
+/// What stands in the list of new numbers for a type that is gone, for [`carry_marks`].
+pub const GONE: u16 = 65_535;
+
+/// What is added to a number that a table is refused with, where it is the new one of [`carry_marks`].
+pub const NEW_TABLE: usize = 100;
 
 /// Which of the three conditions a breach breaks.
 #[derive(Clone, Copy, Debug, PartialEq, Eq)]
@@ -154,7 +161,7 @@ impl fmt::Display for Breach {
 /// ```
 #[derive(Clone, Copy, Debug, PartialEq, Eq)]
 pub struct Refusal {
-    /// 1 to 16 or 19 to 24, as in `include/finnedscarf.h`.
+    /// 1 to 24, or, of a new table, 101 to 109 or 119, as in `include/finnedscarf.h`.
     pub number: usize,
     /// The lowest type, privilege or byte at which the check of this number fails; 0 where the check has no places.
     pub place: usize,
@@ -166,6 +173,13 @@ impl fmt::Display for Refusal {
     fn fmt(&self, f: &mut fmt::Formatter) -> fmt::Result {
         let Refusal { number, place, breach } = self;
         write!(f, "refused with number {number}: ")?;
+        let number = match number.checked_sub(NEW_TABLE) {
+            Some(of_table) => {
+                write!(f, "of the new table, ")?;
+                of_table
+            }
+            None => *number,
+        };
         match number {
             1 => write!(f, "under 8 words lent, or word 0 is neither 1 nor 2"),
             2 => write!(f, "words 1 to 6 are not a table's, or the run lent isn't word 1 long"),
@@ -183,8 +197,8 @@ impl fmt::Display for Refusal {
             11 => write!(f, "a mark above 2 at privilege {place}"),
             12 => write!(
                 f,
-                "result shorter than the number of privileges (with all roles at once: for each role; over maps: in bits), or than the table \
-                 that is read"
+                "result shorter than the number of privileges (with all roles at once: for each role; over maps: in bits; of marks carried \
+                 over: either result), or than the table that is read"
             ),
             13 => write!(f, "not one proposed mark for each privilege (over maps: not one bit for each, rounded up to bytes)"),
             14 => write!(
@@ -192,6 +206,11 @@ impl fmt::Display for Refusal {
                 "a proposed mark above 2 at privilege {place} (over maps: it is set in both, or, with 0, a spare bit is set in either)"
             ),
             15 => write!(f, "a change other than from allowed to forbidden at privilege {place}"),
+            17 => write!(f, "not one new number for each old type"),
+            18 => write!(
+                f,
+                "the new number of old type {place} is neither 65,535 nor below the number of new types, or an earlier type has it too"
+            ),
             19 => write!(f, "type {place} is on a cycle: it is below one of its own children"),
             20 => write!(f, "not DTD text: byte {place} cannot stand there (one past the last: it ends too early)"),
             21 => write!(
@@ -324,6 +343,48 @@ pub fn mend_maps(words: &[u16], maps: Maps, out: MapsMut) -> Result<usize, Refus
 pub fn judge_mend_maps(words: &[u16], maps: Maps, proposed: Maps) -> Result<usize, Refusal> {
     let Maps { allowed, forbidden } = maps;
     border::judge_mend_maps(words, allowed, forbidden, proposed.allowed, proposed.forbidden).done().map(|done| done.count)
+}
+
+/// Carries the marks of a policy over to a revised schema. `new_numbers` has for each type of the old table its number in the new one, or [`GONE`];
+/// no other number stands there twice. An old privilege and a new one correspond if they are the same edit, that is, of one kind (text, insert,
+/// delete or replace) and on types of which each has as its new number the one that stands there: the edited type itself, and the children that
+/// are inserted, deleted, replaced or take another's place. The tables may be in different formats, and at a star of format 2 replace names its
+/// child twice.
+///
+/// Writes for each new privilege the mark of the old one that corresponds to it, or [`UNSET`] if there is none, into the first bytes of `out`, and
+/// for each old privilege into the first bytes of `lost` 1 if it was set and no new one corresponds to it, else 0. The rest of both is kept.
+/// Refused with 1 to 9 and 19 for the old table, 10 and 11 for the old marks, the new table's numbers raised by [`NEW_TABLE`], 17 if the list is not
+/// as long as there are old types, 18 for a new number that is neither [`GONE`] nor below the number of new types, or that an earlier type has too,
+/// and 12 if either result is short, in this order.
+///
+/// ```
+/// use finnedscarf::{carry_marks, ALLOWED, FORBIDDEN, GONE, UNSET};
+///
+/// // a star whose child is a text; its privileges are insert, delete, and change the text
+/// let old_words = [1, 15, 2, 0, 8, 1, 14, 3, 4, 1, 0, 1, 0, 1, 1];
+/// // the text is type 0 now; the star is type 2, and its child is a sequence of the text, type 1
+/// let new_words = [1, 19, 3, 2, 8, 2, 17, 3, 1, 0, 0, 2, 1, 0, 4, 1, 1, 0, 1];
+/// let (mut out, mut lost) = ([UNSET; 3], [0; 3]);
+/// carry_marks(&old_words, &[ALLOWED, UNSET, FORBIDDEN], &new_words, &[2, 0], &mut out, &mut lost)?;
+/// // to insert a text into the star, which was allowed, is no edit any more; to change it is forbidden as before
+/// assert_eq!((out, lost), ([FORBIDDEN, UNSET, UNSET], [1, 0, 0]));
+///
+/// carry_marks(&old_words, &[ALLOWED, UNSET, FORBIDDEN], &new_words, &[2, GONE], &mut out, &mut lost)?;
+/// assert_eq!((out, lost), ([UNSET, UNSET, UNSET], [1, 0, 1]));
+///
+/// let refusal = carry_marks(&old_words, &[UNSET; 3], &new_words[..18], &[2, 0], &mut out, &mut lost).unwrap_err();
+/// assert_eq!(refusal.to_string(), "refused with number 102: of the new table, words 1 to 6 are not a table's, or the run lent isn't word 1 long");
+/// # Ok::<(), finnedscarf::Refusal>(())
+/// ```
+pub fn carry_marks(
+    old_words: &[u16],
+    old_marks: &[u8],
+    new_words: &[u16],
+    new_numbers: &[u16],
+    out: &mut [u8],
+    lost: &mut [u8],
+) -> Result<(), Refusal> {
+    border::carry_marks(old_words, old_marks, new_words, new_numbers, out, lost).done().map(|_| ())
 }
 
 impl Outcome {

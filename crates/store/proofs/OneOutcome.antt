@@ -18,6 +18,8 @@ use Rattle.roles.proofs.Roles.{roles-one}
 use Rattle.pairs.specs.Maps.{Maps}
 use Rattle.maps.specs.Answers.{JudgeMapsAnswer, ProposeMapsAnswer, CompleteMapsAnswer, MendMapsAnswer}
 use Rattle.maps.proofs.Agreed.{judge-maps-one, propose-maps-one, complete-maps-one, mend-maps-one}
+use Rattle.carry.specs.Answers.{CarryAnswer}
+use Rattle.carry.proofs.Answers.{carry-one}
 use Rattle.store.specs.Outcomes.{outcomeOf, CheckAnswer, ReadAnswer, Told}
 use Rattle.store.specs.declared.Outcome.{Outcome}
 
@@ -70,3 +72,7 @@ module _ {ws : List ℕ} {m : Maps} {o p : Outcome} where
 
   pub propose-maps-outcome : {proposed : Maps} → Told (ProposeMapsAnswer ws m proposed) o → Told (ProposeMapsAnswer ws m proposed) p → o ≡ p
   propose-maps-outcome s t = told-one s t (propose-maps-one (s .promised) (t .promised))
+
+pub carry-outcome : {old marks new numbers out lost x l y k : List ℕ} {o p : Outcome} → Told (λ a. CarryAnswer old marks new numbers out lost a x l) o
+    → Told (λ a. CarryAnswer old marks new numbers out lost a y k) p → (o ≡ p) × (x ≡ y) × (l ≡ k)
+carry-outcome s t = let one = carry-one (s .promised) (t .promised) in (told-one s t (one .0), one .1, one .2)

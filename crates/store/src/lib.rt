@@ -1,4 +1,4 @@
-// The eleven calls for programs in C and Rust: runs and lengths in, an outcome out. include/finnedscarf.h declares them.
+// The twelve calls for programs in C and Rust: runs and lengths in, an outcome out. include/finnedscarf.h declares them.
 // Contracts cite specs/Outcomes for the outcome, and the definitions of the crate that makes the call for the answer.
 ghost use mathlib.Core.Path.{_≡_};
 ghost use Rattle.verdict.specs.Answers.{JudgeAnswer};
@@ -8,7 +8,9 @@ ghost use Rattle.proposing.specs.Answers.{ProposeAnswer};
 ghost use Rattle.roles.specs.Answers.{RolesAnswer};
 ghost use Rattle.pairs.specs.Maps.{maps};
 ghost use Rattle.maps.specs.Answers.{JudgeMapsAnswer, CompleteMapsAnswer, MendMapsAnswer, ProposeMapsAnswer};
+ghost use Rattle.carry.specs.Answers.{CarryAnswer};
 ghost use Rattle.store.specs.Outcomes.{outcomeOf, CheckAnswer, ReadAnswer, Told};
+use carry::carry_marks;
 use completion::complete;
 use dtd::read_dtd;
 use maps::complete_maps;
@@ -185,4 +187,21 @@ pub extern "C" fn finnedscarf_judge_mend_maps(
         proposed_allowed,
         proposed_forbidden,
     ))
+}
+
+// Carries the marks of an old table over to a new one, by the new numbers of the old types, 65,535 for one that is gone: refuses with the old table's
+// numbers, 10, 11, the new table's raised by 100, 17, 18 or 12 and leaves both results as they were, or writes the new marks and, for each old
+// privilege, whether its mark is lost, and keeps the rest of both.
+#[no_mangle]
+pub extern "C" fn finnedscarf_carry_marks(
+    old_words: &[u16],
+    old_marks: &[u8],
+    new_words: &[u16],
+    new_numbers: &[u16],
+    out: &mut [u8],
+    lost: &mut [u8],
+) -> Outcome
+    ensures { λ r. ⌜ Told (λ a. CarryAnswer (now («old_words» .entry)) (now («old_marks» .entry)) (now («new_words» .entry)) (now («new_numbers» .entry)) (now (out .entry)) (now (lost .entry)) a (now (out .exit)) (now (lost .exit))) r ⌝ }
+{
+    outcome_of(carry_marks(old_words, old_marks, new_words, new_numbers, out, lost))
 }
