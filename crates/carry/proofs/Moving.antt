@@ -16,6 +16,7 @@ use Rattle.carry.specs.Numbers.{newNumber}
 use Rattle.carry.specs.Carries.{mapped, Becomes, NewMark, kept, fresh, LostByte, lost, unset, housed, Carries}
 use Rattle.carry.specs.steps.Scattering.{MarkMoved, moved, unmoved, ByteMoved, found, unfound, Scattered, Pair, setByte}
 use Rattle.carry.specs.steps.Moving.{Moving, MovingAt, OfType, TypesTo, BecomesBy, TextAt, text-at, EndsAt, insert-at, delete-at, ReplacesAt, exchange-at, replace-at}
+use Rattle.carry.specs.declared.carrying.Site.{Site}
 use Rattle.carry.proofs.Scattering.{Either, scattered-none, scattered-as, scattered-then}
 
 -- the edits that name the change of a text, an insert and a delete
@@ -164,10 +165,10 @@ room-for {old} {new = new} m e f o n = (
 )
 
 -- the same with results of the same length
-pub moving-after : {old marks new numbers out lost m l : List ℕ} {x first y onto : ℕ} {R : ℕ → ℕ → Type 0} → MovingAt old marks new numbers out lost x first y onto
-    → Scattered R marks out lost m l → MovingAt old marks new numbers m l x first y onto
-moving-after w s = record {
-  moving = record { move = w .moving .move; out-size = s .out-size ∙ w .moving .out-size; lost-size = s .lost-size ∙ w .moving .lost-size };
+pub moving-after : {old marks new numbers out lost m l : List ℕ} {s : Site} {R : ℕ → ℕ → Type 0} → MovingAt old marks new numbers out lost s
+    → Scattered R marks out lost m l → MovingAt old marks new numbers m l s
+moving-after w t = record {
+  moving = record { move = w .moving .move; out-size = t .out-size ∙ w .moving .out-size; lost-size = t .lost-size ∙ w .moving .lost-size };
   type = w .type;
   first-is = w .first-is;
   y-is = w .y-is;

@@ -3,9 +3,9 @@
 use Prim.Native.Nat.{ℕ, _<_}
 use mathlib.Core.Path.{_≡_, refl, sym, ap, _∙_}
 use mathlib.Core.Logic.{_≢_, inr, _↔_}
-use mathlib.Core.List.{List, map-id}
+use mathlib.Core.List.{List, _++_, map-id}
 use native.Mathlib.Omega.{arith}
-use lib.ListN.{length, getD, replicate, length-replicate, getD-replicate}
+use lib.ListN.{length, getD, drop, replicate, length-replicate, getD-replicate}
 use lib.Seq.{ext-getD}
 use Rattle.table.specs.Words.{types}
 use Rattle.table.specs.Rule.{childrenAt, IsStar, childAt}
@@ -19,11 +19,15 @@ use Rattle.table.proofs.Named.{names-types}
 use Rattle.table.proofs.Renumbered.{renumbered-back, position-there, offers-there}
 use Rattle.policy.specs.Marks.{Policy}
 use Rattle.verdict.specs.Conditions.{Clean}
+use Rattle.verdict.specs.Answers.{done}
+use Rattle.verdict.specs.declared.Answer.{Answer}
 use Rattle.verdict.specs.Carried.{Carried}
 use Rattle.verdict.proofs.Carried.{carried-back, carried-one}
 use Rattle.verdict.proofs.Renumbered as verdict
 use Rattle.carry.specs.Numbers.{newNumber}
 use Rattle.carry.specs.Carries.{mapped, Becomes, Carries, Move}
+use Rattle.carry.specs.Answers.{Room, CarryAnswer, refused, short, carried}
+use Rattle.carry.proofs.Answers.{move-not}
 use Rattle.carry.proofs.Becoming.{each-map, mapped-same}
 use Rattle.carry.proofs.Keeping.{carries-policy, home-mark, home-byte}
 
@@ -140,3 +144,25 @@ identity-carries {ws} {marks} v h c =
     let k = renumbered-carries r v h c in
     let stay : Carried (λ x. x) ws marks ws marks = record { keeps = λ e o. ap (λ (d : Edit). getD marks (privilegeOf ws d) 0) (moved-same e) } in
     (carried-one r a a (k .0) stay (c .size) (v .policy .fit .size), k .1)
+
+-- so the call: with room it is done, and says so
+pub carry-renumbered : {f g : ℕ → ℕ} {ws vs marks numbers out lost x l : List ℕ} {a : Answer} → Renumbered f g ws vs → Policy ws marks → Accepted vs
+    → length numbers ≡ types ws → NumberedBy f ws numbers → Room ws vs out lost → CarryAnswer ws marks vs numbers out lost a x l
+    → (a ≡ done 0) × (l ≡ replicate (privileges ws) 0 ++ drop (privileges ws) lost)
+    × ((n : List ℕ) × Carried f ws marks vs n × (x ≡ n ++ drop (privileges vs) out))
+carry-renumbered r p b size h room (refused why e s t) = absurd (move-not (renumbered-move r p b size h) why)
+carry-renumbered r p b size h room (short v none e s t) = absurd (none room)
+carry-renumbered {ws = ws} {lost = lost} r p b size h room (carried v g c e s t) =
+    let k = renumbered-carries r v h c in (e, t ∙ ap (λ (k : List ℕ). k ++ drop (privileges ws) lost) (k .1), (_, k .0, s))
+
+pub carry-identity : {ws marks numbers out lost x l : List ℕ} {a : Answer} → Policy ws marks → length numbers ≡ types ws
+    → ((x : ℕ) → x < types ws → newNumber numbers x ≡ x) → Room ws ws out lost → CarryAnswer ws marks ws numbers out lost a x l
+    → (a ≡ done 0) × (x ≡ marks ++ drop (privileges ws) out) × (l ≡ replicate (privileges ws) 0 ++ drop (privileges ws) lost)
+carry-identity {ws} p size h room (refused why e s t) = absurd (move-not (renumbered-move (itself-renumbered ws) p (p .accepted) size h) why)
+carry-identity p size h room (short v none e s t) = absurd (none room)
+carry-identity {ws} {out = out} {lost = lost} p size h room (carried v g c e s t) =
+    let k = identity-carries v h c in (
+      e,
+      s ∙ ap (λ (k : List ℕ). k ++ drop (privileges ws) out) (k .0),
+      t ∙ ap (λ (k : List ℕ). k ++ drop (privileges ws) lost) (k .1),
+    )

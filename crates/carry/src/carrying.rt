@@ -22,86 +22,85 @@ use table::rule::children;
 use table::words::types;
 use table::words::word_at;
 
-// Carries the mark of the change of the text of x, where both are text.
+// An old type and the new one that it becomes, each with its first privilege.
+struct Site {
+    x: usize,
+    first: usize,
+    y: usize,
+    onto: usize,
+}
+
+// Carries the mark of the change of a text, where both are text.
 fn carry_text(
     old: &[u16],
     marks: &[u8],
     new: &[u16],
     numbers: &[u16],
-    x: usize,
-    first: usize,
-    y: usize,
-    onto: usize,
+    site: Site,
     out: &mut [u8],
     lost: &mut [u8],
 )
-    requires { ⌜ MovingAt (now old) (now marks) (now new) (now numbers) (now out) (now lost) x first y onto ⌝ }
-    ensures { λ _. ⌜ Scattered (BecomesBy (TextAt x) (now (old .entry)) (now (new .entry)) (now (numbers .entry))) (now (marks .entry)) (now (out .entry)) (now (lost .entry)) (now (out .exit)) (now (lost .exit)) ⌝ }
+    requires { ⌜ MovingAt (now old) (now marks) (now new) (now numbers) (now out) (now lost) site ⌝ }
+    ensures { λ _. ⌜ Scattered (BecomesBy (TextAt (site .x)) (now (old .entry)) (now (new .entry)) (now (numbers .entry))) (now (marks .entry)) (now (out .entry)) (now (lost .entry)) (now (out .exit)) (now (lost .exit)) ⌝ }
 {
-    if kind_at(old, x) != 1 {
+    if kind_at(old, site.x) != 1 {
         return;
     }
-    if kind_at(new, y) != 1 {
+    if kind_at(new, site.y) != 1 {
         return;
     }
-    move_mark(marks, first, onto, out, lost);
+    move_mark(marks, site.first, site.onto, out, lost);
 }
 
-// Carries the marks of insert and delete at x, where both are stars of one child.
+// Carries the marks of insert and delete, where both are stars of one child.
 fn carry_ends(
     old: &[u16],
     marks: &[u8],
     new: &[u16],
     numbers: &[u16],
-    x: usize,
-    first: usize,
-    y: usize,
-    onto: usize,
+    site: Site,
     out: &mut [u8],
     lost: &mut [u8],
 )
-    requires { ⌜ MovingAt (now old) (now marks) (now new) (now numbers) (now out) (now lost) x first y onto ⌝ }
-    ensures { λ _. ⌜ Scattered (BecomesBy (EndsAt x) (now (old .entry)) (now (new .entry)) (now (numbers .entry))) (now (marks .entry)) (now (out .entry)) (now (lost .entry)) (now (out .exit)) (now (lost .exit)) ⌝ }
+    requires { ⌜ MovingAt (now old) (now marks) (now new) (now numbers) (now out) (now lost) site ⌝ }
+    ensures { λ _. ⌜ Scattered (BecomesBy (EndsAt (site .x)) (now (old .entry)) (now (new .entry)) (now (numbers .entry))) (now (marks .entry)) (now (out .entry)) (now (lost .entry)) (now (out .exit)) (now (lost .exit)) ⌝ }
 {
-    if kind_at(old, x) != 4 {
+    if kind_at(old, site.x) != 4 {
         return;
     }
-    if kind_at(new, y) != 4 {
+    if kind_at(new, site.y) != 4 {
         return;
     }
-    if word_at(numbers, child_at(old, x, 0)) != child_at(new, y, 0) {
+    if word_at(numbers, child_at(old, site.x, 0)) != child_at(new, site.y, 0) {
         return;
     }
-    move_mark(marks, first, onto, out, lost);
-    move_mark(marks, first + 1, onto + 1, out, lost);
+    move_mark(marks, site.first, site.onto, out, lost);
+    move_mark(marks, site.first + 1, site.onto + 1, out, lost);
 }
 
-// Carries the marks of the replacements at x, by the kinds they name.
+// Carries the marks of the replacements, by the kinds they name.
 fn carry_replacements(
     old: &[u16],
     marks: &[u8],
     new: &[u16],
     numbers: &[u16],
-    x: usize,
-    first: usize,
-    y: usize,
-    onto: usize,
+    site: Site,
     out: &mut [u8],
     lost: &mut [u8],
 )
-    requires { ⌜ MovingAt (now old) (now marks) (now new) (now numbers) (now out) (now lost) x first y onto ⌝ }
-    ensures { λ _. ⌜ Scattered (BecomesBy (ReplacesAt x) (now (old .entry)) (now (new .entry)) (now (numbers .entry))) (now (marks .entry)) (now (out .entry)) (now (lost .entry)) (now (out .exit)) (now (lost .exit)) ⌝ }
+    requires { ⌜ MovingAt (now old) (now marks) (now new) (now numbers) (now out) (now lost) site ⌝ }
+    ensures { λ _. ⌜ Scattered (BecomesBy (ReplacesAt (site .x)) (now (old .entry)) (now (new .entry)) (now (numbers .entry))) (now (marks .entry)) (now (out .entry)) (now (lost .entry)) (now (out .exit)) (now (lost .exit)) ⌝ }
 {
-    let from = replaces_at(old, x, first);
+    let from = replaces_at(old, site.x, site.first);
     if from.count == 0 {
         return;
     }
-    let to = replaces_at(new, y, onto);
+    let to = replaces_at(new, site.y, site.onto);
     let at = places(
-        children(old, x),
+        children(old, site.x),
         from.count,
         numbers,
-        children(new, y),
+        children(new, site.y),
         to.count,
     );
     carry_rows(marks, from, to, &at, out, lost);
@@ -127,9 +126,10 @@ fn carry_type(
         return;
     }
     let onto = word_at(firsts, y);
-    carry_text(old, marks, new, numbers, x, first, y, onto, out, lost);
-    carry_ends(old, marks, new, numbers, x, first, y, onto, out, lost);
-    carry_replacements(old, marks, new, numbers, x, first, y, onto, out, lost);
+    let site = Site { x, first, y, onto };
+    carry_text(old, marks, new, numbers, site, out, lost);
+    carry_ends(old, marks, new, numbers, site, out, lost);
+    carry_replacements(old, marks, new, numbers, site, out, lost);
 }
 
 // Carries all marks.

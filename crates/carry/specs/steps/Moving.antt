@@ -7,6 +7,7 @@ use Rattle.table.specs.Words.{types}
 use Rattle.table.specs.Privilege.{privileges, firstPrivilege, Edit, text, insert, delete, exchange, replace, typeOf}
 use Rattle.carry.specs.Numbers.{newNumber}
 use Rattle.carry.specs.Carries.{Becomes, Move}
+use Rattle.carry.specs.declared.carrying.Site.{Site}
 
 -- p becomes q, by an old edit that is asked for
 pub record BecomesBy (Asked : Edit → Type 0) (old new numbers : List ℕ) (p q : ℕ) : Type 0 where
@@ -38,11 +39,11 @@ pub record Moving (old marks new numbers out lost : List ℕ) : Type 0 where
   pub out-size : length out ≡ privileges new
   pub lost-size : length lost ≡ privileges old
 
--- the old type x with its first privilege, where it is not gone: the new type y with its own
-pub record MovingAt (old marks new numbers out lost : List ℕ) (x first y onto : ℕ) : Type 0 where
+-- an old type with its first privilege, and the new one that it becomes, with its own
+pub record MovingAt (old marks new numbers out lost : List ℕ) (s : Site) : Type 0 where
   pub moving : Moving old marks new numbers out lost
-  pub type : x < types old
-  pub first-is : first ≡ firstPrivilege old x
-  pub y-is : y ≡ newNumber numbers x
-  pub there : y < types new
-  pub onto-is : onto ≡ firstPrivilege new y
+  pub type : s .x < types old
+  pub first-is : s .first ≡ firstPrivilege old (s .x)
+  pub y-is : s .y ≡ newNumber numbers (s .x)
+  pub there : s .y < types new
+  pub onto-is : s .onto ≡ firstPrivilege new (s .y)

@@ -18,7 +18,7 @@ returns : tie.Need-returns
 returns c =
     let a = c .before .before .before .before .before .before .before .before .args in
     let w = c .before .before .before .before .before .before .before .before .pre in
-    ends-none-old (now (a .old)) (now (a .new)) (now (a .numbers)) (a .x) (a .y) (w .y-is) (λ s. c .if1 .taken (c .before .kind-at .ensures ∙ s .kind-is))
+    ends-none-old (now (a .old)) (now (a .new)) (now (a .numbers)) (a .site .x) (a .site .y) (w .y-is) (λ s. c .if1 .taken (c .before .kind-at .ensures ∙ s .kind-is))
 
 kind-at-requires-2 : tie.Need-kind-at-requires-2
 kind-at-requires-2 c κs = let w = c .before .before .before .before .before .before .before .before .pre in has-record (w .moving .move .accepted) (w .there)
@@ -27,7 +27,7 @@ returns-2 : tie.Need-returns-2
 returns-2 c =
     let a = c .before .before .before .before .before .before .before .before .before .before .args in
     let w = c .before .before .before .before .before .before .before .before .before .before .pre in
-    ends-none-new (now (a .old)) (now (a .new)) (now (a .numbers)) (a .x) (a .y) (w .y-is) (λ s. c .if2 .taken (c .before .kind-at2 .ensures ∙ s .kind-is))
+    ends-none-new (now (a .old)) (now (a .new)) (now (a .numbers)) (a .site .x) (a .site .y) (w .y-is) (λ s. c .if2 .taken (c .before .kind-at2 .ensures ∙ s .kind-is))
 
 child-at-requires : tie.Need-child-at-requires
 child-at-requires c κs = let w = c .before .before .before .before .before .before .before .before .before .before .pre in has-children (w .moving .move .policy .accepted) (w .type)
@@ -43,14 +43,14 @@ returns-3 c =
     let a = c .before .before .before .before .before .before .before .before .before .before .before .before .before .before .args in
     let w = c .before .before .before .before .before .before .before .before .before .before .before .before .before .before .pre in
     let kid = c .before .before .before .child-at .ensures in
-    ends-none-child (now (a .old)) (now (a .new)) (now (a .numbers)) (a .x) (a .y) (w .y-is)
+    ends-none-child (now (a .old)) (now (a .new)) (now (a .numbers)) (a .site .x) (a .site .y) (w .y-is)
     (λ e. c .if3 .taken (c .before .before .word-at .ensures .is ∙ ap (newNumber (now (a .numbers))) kid ∙ e ∙ sym (c .before .child-at2 .ensures)))
 
 -- past the tests both are stars of one child
 both : (c : tie.Else3)
     → let a = c .before .before .before .before .before .before .before .before .before .before .before .before .before .before .args in
-    IsStar (now (a .old)) (a .x) × IsStar (now (a .new)) (a .y)
-    × (newNumber (now (a .numbers)) (childAt (now (a .old)) (a .x) 0) ≡ childAt (now (a .new)) (a .y) 0)
+    IsStar (now (a .old)) (a .site .x) × IsStar (now (a .new)) (a .site .y)
+    × (newNumber (now (a .numbers)) (childAt (now (a .old)) (a .site .x) 0) ≡ childAt (now (a .new)) (a .site .y) 0)
 both c =
     let a = c .before .before .before .before .before .before .before .before .before .before .before .before .before .before .args in
     let w = c .before .before .before .before .before .before .before .before .before .before .before .before .before .before .pre in (
@@ -64,32 +64,32 @@ move-mark-requires c κs =
     let a = c .before .before .before .before .before .before .before .before .before .before .before .before .before .before .before .before .args in
     let w = c .before .before .before .before .before .before .before .before .before .before .before .before .before .before .before .before .pre in
     let s = both (c .before .before) in
-    let room = room-for (w .moving) (insert (a .x)) (insert (a .y)) (s .0) (s .1) in
+    let room = room-for (w .moving) (insert (a .site .x)) (insert (a .site .y)) (s .0) (s .1) in
     (omega (arith, w .first-is, room .0), omega (arith, w .first-is, room .1), omega (arith, w .onto-is, room .2))
 
 add-move-mark : tie.Need-add-move-mark
 add-move-mark c =
-    let a = c .before .before .before .before .before .before .before .before .before .before .before .before .before .before .before .before .before .before .before .before .before .args in
-    let w = c .before .before .before .before .before .before .before .before .before .before .before .before .before .before .before .before .before .before .before .before .before .pre in
-    let s = both (c .before .before .before .before .before .before .before) in
-    let room = room-for (w .moving) (delete (a .x)) (delete (a .y)) (s .0) (s .1) in
+    let a = c .before .before .before .before .before .before .before .before .before .before .before .before .before .before .before .before .before .before .before .before .before .before .args in
+    let w = c .before .before .before .before .before .before .before .before .before .before .before .before .before .before .before .before .before .before .before .before .before .before .pre in
+    let s = both (c .before .before .before .before .before .before .before .before) in
+    let room = room-for (w .moving) (delete (a .site .x)) (delete (a .site .y)) (s .0) (s .1) in
     omega (arith, w .first-is, room .1, w .moving .lost-size, facts (w .moving .move .policy .accepted) .privileges-few)
 
 add-move-mark-2 : tie.Need-add-move-mark-2
 add-move-mark-2 c =
-    let a = c .before .before .before .before .before .before .before .before .before .before .before .before .before .before .before .before .before .before .before .before .before .args in
-    let w = c .before .before .before .before .before .before .before .before .before .before .before .before .before .before .before .before .before .before .before .before .before .pre in
-    let s = both (c .before .before .before .before .before .before .before) in
-    let room = room-for (w .moving) (delete (a .x)) (delete (a .y)) (s .0) (s .1) in
+    let a = c .before .before .before .before .before .before .before .before .before .before .before .before .before .before .before .before .before .before .before .before .before .before .before .args in
+    let w = c .before .before .before .before .before .before .before .before .before .before .before .before .before .before .before .before .before .before .before .before .before .before .before .pre in
+    let s = both (c .before .before .before .before .before .before .before .before .before) in
+    let room = room-for (w .moving) (delete (a .site .x)) (delete (a .site .y)) (s .0) (s .1) in
     omega (arith, w .onto-is, room .2, w .moving .out-size, facts (w .moving .move .accepted) .privileges-few)
 
 move-mark-requires-2 : tie.Need-move-mark-requires-2
 move-mark-requires-2 c κs =
-    let a = c .before .before .before .before .before .before .before .before .before .before .before .before .before .before .before .before .before .before .before .before .before .before .before .args in
-    let w = c .before .before .before .before .before .before .before .before .before .before .before .before .before .before .before .before .before .before .before .before .before .before .before .pre in
-    let s = both (c .before .before .before .before .before .before .before .before .before) in
-    let first = c .before .before .before .before .before .before .move-mark .ensures in
-    let room = room-for (w .moving) (delete (a .x)) (delete (a .y)) (s .0) (s .1) in (
+    let a = c .before .before .before .before .before .before .before .before .before .before .before .before .before .before .before .before .before .before .before .before .before .before .before .before .before .args in
+    let w = c .before .before .before .before .before .before .before .before .before .before .before .before .before .before .before .before .before .before .before .before .before .before .before .before .before .pre in
+    let s = both (c .before .before .before .before .before .before .before .before .before .before .before) in
+    let first = c .before .before .before .before .before .before .before .before .move-mark .ensures in
+    let room = room-for (w .moving) (delete (a .site .x)) (delete (a .site .y)) (s .0) (s .1) in (
       omega (arith, w .first-is, room .0),
       omega (arith, w .first-is, room .1, first .lost-size),
       omega (arith, w .onto-is, room .2, first .out-size),
@@ -103,10 +103,10 @@ same-length-2 c = search needs
 
 returns-4 : tie.Need-returns-4
 returns-4 c =
-    let a = c .before .before .before .before .before .before .before .before .before .before .before .before .before .before .before .before .before .before .before .before .before .before .before .before .before .before .before .before .args in
-    let w = c .before .before .before .before .before .before .before .before .before .before .before .before .before .before .before .before .before .before .before .before .before .before .before .before .before .before .before .before .pre in
-    let s = both (c .before .before .before .before .before .before .before .before .before .before .before .before .before .before) in
-    ends-moved (now (a .old)) (now (a .new)) (now (a .numbers)) (a .x) (a .y) (w .y-is) (s .0) (s .1) (s .2) (w .first-is) (w .onto-is) (c .before .before .before .before .before .before .before .before .before .before .before .move-mark .ensures)
+    let a = c .before .before .before .before .before .before .before .before .before .before .before .before .before .before .before .before .before .before .before .before .before .before .before .before .before .before .before .before .before .before .args in
+    let w = c .before .before .before .before .before .before .before .before .before .before .before .before .before .before .before .before .before .before .before .before .before .before .before .before .before .before .before .before .before .before .pre in
+    let s = both (c .before .before .before .before .before .before .before .before .before .before .before .before .before .before .before .before) in
+    ends-moved (now (a .old)) (now (a .new)) (now (a .numbers)) (a .site .x) (a .site .y) (w .y-is) (s .0) (s .1) (s .2) (w .first-is) (w .onto-is) (c .before .before .before .before .before .before .before .before .before .before .before .before .before .move-mark .ensures)
     (c .before .before .before .before .move-mark2 .ensures)
 
 pub carry-ends-spec : {M : Type 1} → statement M

@@ -53,9 +53,9 @@ returns-2 c =
     let at = c .before .before .before .before .before .before .before .before .places .result in
     let b = w .moving .move .accepted in
     let placed = rw (c .before .before .before .before .before .before .before .before .before .before .children .ensures, c .before .before .before .before .before .before .before .before .before .children2 .ensures) at (c .before .before .before .before .before .before .before .before .places .ensures) in
-    scattered-as (Replaces (from .result) (to .result) at (RowsTo (from .result .count))) (BecomesBy (ReplacesAt (a .x)) old new numbers)
-    (replaces-become old new numbers at (a .x) (a .y) (w .y-is) (from .result) (to .result) b (w .there) (from .ensures) (to .ensures) placed)
-    (become-replaces old new numbers at (a .x) (a .y) (w .y-is) (from .result) (to .result) b (w .there) (from .ensures) (to .ensures) placed)
+    scattered-as (Replaces (from .result) (to .result) at (RowsTo (from .result .count))) (BecomesBy (ReplacesAt (a .site .x)) old new numbers)
+    (replaces-become old new numbers at (a .site .x) (a .site .y) (w .y-is) (from .result) (to .result) b (w .there) (from .ensures) (to .ensures) placed)
+    (become-replaces old new numbers at (a .site .x) (a .site .y) (w .y-is) (from .result) (to .result) b (w .there) (from .ensures) (to .ensures) placed)
     (c .before .before .before .before .carry-rows .ensures)
 
 pub carry-replacements-spec : {M : Type 1} → statement M

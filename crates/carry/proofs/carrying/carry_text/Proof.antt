@@ -17,7 +17,7 @@ returns : tie.Need-returns
 returns c =
     let a = c .before .before .before .before .before .before .before .before .args in
     let w = c .before .before .before .before .before .before .before .before .pre in
-    text-none-old (now (a .old)) (now (a .new)) (now (a .numbers)) (a .x) (a .y) (w .y-is) (λ t. c .if1 .taken (c .before .kind-at .ensures ∙ t .kind-is))
+    text-none-old (now (a .old)) (now (a .new)) (now (a .numbers)) (a .site .x) (a .site .y) (w .y-is) (λ t. c .if1 .taken (c .before .kind-at .ensures ∙ t .kind-is))
 
 kind-at-requires-2 : tie.Need-kind-at-requires-2
 kind-at-requires-2 c κs = let w = c .before .before .before .before .before .before .before .before .pre in has-record (w .moving .move .accepted) (w .there)
@@ -26,10 +26,10 @@ returns-2 : tie.Need-returns-2
 returns-2 c =
     let a = c .before .before .before .before .before .before .before .before .before .before .args in
     let w = c .before .before .before .before .before .before .before .before .before .before .pre in
-    text-none-new (now (a .old)) (now (a .new)) (now (a .numbers)) (a .x) (a .y) (w .y-is) (λ t. c .if2 .taken (c .before .kind-at2 .ensures ∙ t .kind-is))
+    text-none-new (now (a .old)) (now (a .new)) (now (a .numbers)) (a .site .x) (a .site .y) (w .y-is) (λ t. c .if2 .taken (c .before .kind-at2 .ensures ∙ t .kind-is))
 
 -- past both tests both are texts
-both : (c : tie.Else2) → let a = c .before .before .before .before .before .before .before .before .before .before .args in IsText (now (a .old)) (a .x) × IsText (now (a .new)) (a .y)
+both : (c : tie.Else2) → let a = c .before .before .before .before .before .before .before .before .before .before .args in IsText (now (a .old)) (a .site .x) × IsText (now (a .new)) (a .site .y)
 both c =
     let w = c .before .before .before .before .before .before .before .before .before .before .pre in (
       record { type = w .type; kind-is = sym (c .before .before .before .kind-at .ensures) ∙ c .before .before .if1 .left },
@@ -41,7 +41,7 @@ move-mark-requires c κs =
     let a = c .before .before .before .before .before .before .before .before .before .before .before .before .args in
     let w = c .before .before .before .before .before .before .before .before .before .before .before .before .pre in
     let t = both (c .before .before) in
-    let room = room-for (w .moving) (text (a .x)) (text (a .y)) (t .0) (t .1) in
+    let room = room-for (w .moving) (text (a .site .x)) (text (a .site .y)) (t .0) (t .1) in
     (omega (arith, w .first-is, room .0), omega (arith, w .first-is, room .1), omega (arith, w .onto-is, room .2))
 
 same-length : tie.Need-same-length
@@ -55,7 +55,7 @@ returns-3 c =
     let a = c .before .before .before .before .before .before .before .before .before .before .before .before .before .before .before .before .before .args in
     let w = c .before .before .before .before .before .before .before .before .before .before .before .before .before .before .before .before .before .pre in
     let t = both (c .before .before .before .before .before .before .before) in
-    text-moved (now (a .old)) (now (a .new)) (now (a .numbers)) (a .x) (a .y) (w .y-is) (t .0) (t .1) (w .first-is) (w .onto-is) (c .before .before .before .before .move-mark .ensures)
+    text-moved (now (a .old)) (now (a .new)) (now (a .numbers)) (a .site .x) (a .site .y) (w .y-is) (t .0) (t .1) (w .first-is) (w .onto-is) (c .before .before .before .before .move-mark .ensures)
 
 pub carry-text-spec : {M : Type 1} → statement M
 carry-text-spec =

@@ -13,7 +13,8 @@ use Rattle.carry.proofs.carrying.carry_type.Tie as tie
 -- where the type is not gone, both types with their first privileges
 at : (c : tie.After-word-at2)
     → let a = c .before .before .before .before .before .before .before .before .before .before .before .args in
-    MovingAt (now (a .old)) (now (a .marks)) (now (a .new)) (now (a .numbers)) (now (a .out)) (now (a .lost)) (a .x) (a .first) (c .before .before .before .before .word-at .result) (c .word-at2 .result)
+    MovingAt (now (a .old)) (now (a .marks)) (now (a .new)) (now (a .numbers)) (now (a .out)) (now (a .lost))
+    (record { x = a .x; first = a .first; y = c .before .before .before .before .word-at .result; onto = c .word-at2 .result })
 at c =
     let pre = c .before .before .before .before .before .before .before .before .before .before .before .pre in
     let there : c .before .before .before .before .word-at .result < types (now (c .before .before .before .before .before .before .before .before .before .before .before .args .new)) = omega (arith, c .before .before .if1 .left, c .before .before .before .types .ensures .is) in
