@@ -3,7 +3,6 @@ use Prim.Native.Nat.{ℕ, zero, suc, _+_, _≤_, _<_}
 use mathlib.Core.Path.{_≡_, refl, sym, ap, _∙_}
 use mathlib.Core.Logic.{_≢_, _⊎_, inl, inr}
 use mathlib.Core.List.{List}
-use native.Mathlib.Decide.{ℕ-discrete}
 use native.Mathlib.Omega.{arith}
 use lib.ListN.{length, getD}
 use Rattle.table.specs.Words.{types}
@@ -17,7 +16,7 @@ use Rattle.carry.specs.Carries.{mapped, Becomes, NewMark, kept, fresh, L
 use Rattle.carry.specs.steps.Scattering.{MarkMoved, moved, unmoved, ByteMoved, found, unfound, Scattered, Pair, setByte}
 use Rattle.carry.specs.steps.Moving.{Moving, MovingAt, OfType, TypesTo, BecomesBy, TextAt, text-at, EndsAt, insert-at, delete-at, ReplacesAt, exchange-at, replace-at}
 use Rattle.carry.specs.declared.carrying.Site.{Site}
-use Rattle.carry.proofs.Scattering.{Either, scattered-none, scattered-as, scattered-then}
+use Rattle.carry.proofs.Scattering.{Either, scattered-none, scattered-as, scattered-then, below-next}
 
 -- the edits that name the change of a text, an insert and a delete
 names-text : (ws : List ℕ) (e : Edit) {x : ℕ} → nameOf ws e ≡ texts x → e ≡ text x
@@ -240,10 +239,7 @@ module _ (old new numbers : List ℕ) where
   pub types-more : {marks out lost m l n k : List ℕ} (x : ℕ) → Scattered (BecomesBy (TypesTo x) old new numbers) marks out lost m l
       → Scattered (BecomesBy (OfType x) old new numbers) marks m l n k → Scattered (BecomesBy (TypesTo (x + 1)) old new numbers) marks out lost n k
   types-more x = scattered-then (BecomesBy (TypesTo x) old new numbers) (BecomesBy (OfType x) old new numbers) (BecomesBy (TypesTo (x + 1)) old new numbers)
-      (more (TypesTo x) (OfType x) (TypesTo (x + 1)) (λ e h. omega arith) (λ e h. omega arith) (λ e h. below (typeOf e) h))
-    where
-      below : (t : ℕ) → t < x + 1 → (t < x) ⊎ (t ≡ x)
-      below t l = elim (ℕ-discrete t x) [ yes e ↦ inr e | no d ↦ inl (omega arith) ]
+      (more (TypesTo x) (OfType x) (TypesTo (x + 1)) (λ e h. omega arith) (λ e h. omega arith) (λ e h. below-next (typeOf e) x h))
 
   -- all types moved, into unset marks and with every set mark counted as lost before
   pub types-all : {marks out gone m l : List ℕ} (x : ℕ) → types old ≤ x → length out ≡ privileges new → length gone ≡ privileges old

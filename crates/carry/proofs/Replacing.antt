@@ -4,7 +4,6 @@ use mathlib.Core.Path.{_≡_, refl, sym, ap, _∙_}
 use mathlib.Core.Logic.{_≢_, _⊎_, inl, inr}
 use mathlib.Core.Bool.{cond}
 use mathlib.Core.List.{List}
-use native.Mathlib.Decide.{ℕ-discrete}
 use native.Mathlib.Omega.{arith}
 use borrow.Author.Tests.{lt-ltb, le-ltb}
 use lib.Dec.{ltb}
@@ -18,7 +17,7 @@ use Rattle.policy.specs.steps.Squares.{Room}
 use Rattle.carry.specs.steps.Scattering.{Scattered, Pair, Pairs}
 use Rattle.carry.specs.steps.Placing.{Alike, replacementsIn, RowAs, StandsAt, RowRoom, BothStand, InRow, RowsTo, Replaces}
 use Rattle.carry.specs.declared.replaced.Row.{Row}
-use Rattle.carry.proofs.Scattering.{Either, scattered-none, scattered-as, scattered-then}
+use Rattle.carry.proofs.Scattering.{Either, scattered-none, scattered-as, scattered-then, below-next}
 
 -- there is as much room in results of the same length
 pub room-after : {n : Numbering} {l m : List ℕ} → Room n l → length m ≡ length l → Room n m
@@ -66,9 +65,6 @@ module _ {from to : Row} {marks out lost : List ℕ} where
   both-there {j = j} {k} {p} {q} old new = scattered-as (Pair p q) (BothStand from to j k)
       (λ a b h. record { old = rw (h .0) old; new = rw (h .1) new })
       (λ a b h. (h .old .is ∙ sym (old .is), h .new .is ∙ sym (new .is)))
-
-below-next : (a i : ℕ) → a < i + 1 → (a < i) ⊎ (a ≡ i)
-below-next a i l = elim (ℕ-discrete a i) [ yes e ↦ inr e | no d ↦ inl (omega arith) ]
 
 -- the replacements by the kinds before j of one row are moved to another, by the places of these kinds
 pub record MovedTo (from to : Row) (at : List ℕ) (j p q : ℕ) : Type 0 where

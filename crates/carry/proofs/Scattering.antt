@@ -77,6 +77,10 @@ scattered-as R S {marks} {out} {lost} {m} {l} there back r = record {
     byte p (found q h is) = found q (there p q h) is
     byte p (unfound none is) = unfound (λ q h. none q (back p q h)) is
 
+-- what is before the next one is before this one, or is it
+pub below-next : (a i : ℕ) → a < i + 1 → (a < i) ⊎ (a ≡ i)
+below-next a i l = elim (ℕ-discrete a i) [ yes e ↦ inr e | no d ↦ inl (omega arith) ]
+
 -- pairs side by side, one after another
 module _ (a b : ℕ) where
   pub pairs-start : (marks out lost : List ℕ) → Scattered (Pairs a b 0) marks out lost out lost
@@ -87,8 +91,8 @@ module _ (a b : ℕ) where
   pairs-more j = scattered-then (Pairs a b j) (Pair (a + j) (b + j)) (Pairs a b (j + 1)) (record {
     first = λ p q h. record { k = h .k; below = omega (arith, h .below); pair = h .pair };
     second = λ p q h. record { k = j; below = omega arith; pair = h };
-    split = λ p q h. elim (ℕ-discrete (h .k) j) [
-      | yes e ↦ inr (rw e at (h .pair))
-      | no d ↦ inl (record { k = h .k; below = omega (arith, h .below); pair = h .pair })
+    split = λ p q h. elim (below-next (h .k) j (h .below)) [
+      | inl l ↦ inl (record { k = h .k; below = l; pair = h .pair })
+      | inr e ↦ inr (rw e at (h .pair))
     ];
   })

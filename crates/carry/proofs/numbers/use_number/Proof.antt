@@ -17,9 +17,9 @@ returns c =
     let used = now (start .args .used) in
     let y = start .args .y in
     record {
-      size = length-set used y 1;
-      hit = λ l. getD-set-same used y 1 0 (omega (arith, start .pre));
-      rest = λ z d. getD-set-other used y z 1 0 d;
+      size = length-set used y _;
+      hit = λ l. getD-set-same used y _ 0 (omega (arith, start .pre));
+      rest = λ z d. getD-set-other used y z _ 0 d;
     }
 
 returns-2 : tie.Need-returns-2
