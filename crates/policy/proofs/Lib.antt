@@ -9,3 +9,5 @@ pub mod Packing
 pub mod RowMarks
 pub mod Writings
 pub mod Tabulates
+pub mod Stretches
+pub mod Roles

@@ -3,4 +3,5 @@ pub mod Marks
 pub mod Reached
 pub mod Renewed
 pub mod Tabulated
+pub mod Roles
 pub mod steps

@@ -8,8 +8,9 @@ use lib.Seq.{drop-drop}
 use borrow.Rule.Slice.PartMut.{putMid, midOf, same-len-mid, mid-len}
 use Rattle.table.specs.Privilege.{privileges}
 use Rattle.table.proofs.Lists.{fill-more}
-use Rattle.roles.specs.Answers.{stretch, RoleAnswer, RolesCompleted}
-use Rattle.roles.proofs.Stretches.{stretch-end, stretch-within, part-before, put-before, put-here, put-after}
+use Rattle.policy.specs.Roles.{stretch}
+use Rattle.roles.specs.Answers.{RoleAnswer, RolesCompleted}
+use Rattle.policy.proofs.Stretches.{stretch-end, stretch-within, part-before, put-before, put-here, put-after}
 
 -- the first n roles have their numbers and their stretches, and from there on the result is as it was
 pub record Upto (ws marks numbers out : List ℕ) (n : ℕ) (numbers-after after : List ℕ) : Type 0 where

@@ -14,9 +14,11 @@ use Rattle.verdict.specs.Answers as answers
 use Rattle.verdict.specs.declared.Answer.{Answer}
 use Rattle.completion.proofs.Least.{least-one}
 use Rattle.completion.proofs.Granting.{Outcome, unfit, none, least, Comes, outcomeBy, outcome-by}
-use Rattle.roles.specs.Answers.{stretch, RoleAnswer, RolesCompleted, RolesAnswer, refused, done}
-use Rattle.roles.proofs.Stretches.{stretch-within, part-size}
-use Rattle.roles.proofs.Roles.{Becomes, bent, broken, completed, role-becomes, done-not}
+use Rattle.policy.specs.Roles.{stretch}
+use Rattle.roles.specs.Answers.{RoleAnswer, RolesCompleted, RolesAnswer, refused, done}
+use Rattle.policy.proofs.Stretches.{stretch-within, part-size}
+use Rattle.roles.proofs.Roles.{Becomes, bent, broken, completed, role-becomes}
+use Rattle.policy.proofs.Roles.{roles-not}
 
 -- a role's number by the outcome of its marks, and what its stretch holds then
 abbrev pub numberOf : Outcome → ℕ
@@ -107,5 +109,5 @@ module _ {numbers out i x : List ℕ} (six : length numbers ≡ 6) (room : 66 �
       (part-size (privileges sample) (r .role) out (omega (arith, eleven))) (c .role (r .role) (omega arith)) comes
 
   pub six-roles : {a : Answer} → RolesAnswer sample show numbers out a i x → (a ≡ answers.done 0) × Each (Left out i x) rows
-  six-roles (refused n e h k) = absurd (done-not accepted (rw (six, eleven)) (rw (six, eleven) room) n)
+  six-roles (refused n e h k) = absurd (roles-not accepted (rw (six, eleven)) (rw (six, eleven) room) n)
   six-roles (done t s h e c) = (e, each-as (left c) rows few outcomes)

@@ -8,7 +8,7 @@ use lib.ListN.{length, getD, take, drop, take-append-drop}
 use lib.Seq.{ext-getD}
 use Rattle.table.specs.Privilege.{privileges}
 use Rattle.table.specs.Check.{Accepted}
-use Rattle.table.proofs.Answers.{answer-one, accepted-answer}
+use Rattle.table.proofs.Answers.{accepted-answer}
 use Rattle.verdict.specs.declared.Answer.{Answer}
 use Rattle.verdict.proofs.Judged.{refusal-one}
 use Rattle.policy.specs.Marks.{length-off as marks-off, mark-above, Policy, table as no-table, marks as no-marks}
@@ -16,38 +16,16 @@ use Rattle.policy.proofs.Policies.{policy-not}
 use Rattle.completion.specs.Answers.{CompleteAnswer, refused as no-policy, short as no-room, none, given}
 use Rattle.completion.specs.Completions.{Completes, LeastCompletion}
 use Rattle.completion.proofs.Completing.{complete-one, zero-given}
-use Rattle.roles.specs.Answers.{stretch, RoleAnswer, RolesCompleted, NoRoles, table, length-off, short, RolesAnswer, refused, done}
-use Rattle.roles.proofs.Stretches.{none-behind, parts-one}
+use Rattle.policy.specs.Roles.{stretch}
+use Rattle.policy.proofs.Roles.{no-roles-one, no-roles-number, roles-not}
+use Rattle.roles.specs.Answers.{RoleAnswer, RolesCompleted, RolesAnswer, refused, done}
+use Rattle.policy.proofs.Stretches.{none-behind, parts-one}
 
 -- a role has one number, and its stretch one content
 pub role-one : {ws marks out x y : List ℕ} {n m : ℕ} → RoleAnswer ws marks out n x → RoleAnswer ws marks out m y → (n ≡ m) × (x ≡ y)
 role-one a b = let one = complete-one (a .single) (b .single) in (a .is ∙ ap (λ (r : Answer). r .number) (one .0) ∙ sym (b .is), one .1)
 
 module _ {ws marks numbers out : List ℕ} where
-  -- a call is refused in one way
-  no-roles-one : {n p m q : ℕ} → NoRoles ws marks numbers out n p → NoRoles ws marks numbers out m q → (n ≡ m) × (p ≡ q)
-  no-roles-one (table d t) (table e u) = answer-one t u
-  no-roles-one (table d t) (length-off a u e z) = absurd (d (accepted-answer a t))
-  no-roles-one (table d t) (short a u h e z) = absurd (d (accepted-answer a t))
-  no-roles-one (length-off a u e z) (table d t) = absurd (d (accepted-answer a t))
-  no-roles-one (length-off a u e z) (length-off b w f y) = (e ∙ sym f, z ∙ sym y)
-  no-roles-one (length-off a u e z) (short b w h f y) = absurd (u w)
-  no-roles-one (short a u h e z) (table d t) = absurd (d (accepted-answer a t))
-  no-roles-one (short a u h e z) (length-off b w f y) = absurd (w u)
-  no-roles-one (short a u h e z) (short b w k f y) = (e ∙ sym f, z ∙ sym y)
-
-  no-roles-number : {n p : ℕ} → NoRoles ws marks numbers out n p → n ≢ 0
-  no-roles-number (table d t) = d
-  no-roles-number (length-off a u e z) = omega arith
-  no-roles-number (short a u h e z) = omega arith
-
-  -- a call that is done is not refused
-  pub done-not : {n p : ℕ} → Accepted ws → length marks ≡ length numbers * privileges ws → length numbers * privileges ws ≤ length out
-      → ¬ NoRoles ws marks numbers out n p
-  done-not a s h (table d t) = d (accepted-answer a t)
-  done-not a s h (length-off b u e z) = u s
-  done-not a s h (short b u k e z) = omega arith
-
   completed-one : {i j x y : List ℕ} → RolesCompleted ws marks numbers out i x → RolesCompleted ws marks numbers out j y → (i ≡ j) × (x ≡ y)
   completed-one {i} {j} {x} {y} c d = (
     ext-getD 0 i j (c .numbers-size ∙ sym (d .numbers-size)) (λ r l. role-one (c .role r (rw (c .numbers-size) at l)) (d .role r (rw (c .numbers-size) at l)) .0),
@@ -64,8 +42,8 @@ module _ {ws marks numbers out : List ℕ} where
   -- a call has one outcome: its answer, and what both lent runs hold
   pub roles-one : {a b : Answer} {i j x y : List ℕ} → RolesAnswer ws marks numbers out a i x → RolesAnswer ws marks numbers out b j y → (a ≡ b) × (i ≡ j) × (x ≡ y)
   roles-one (refused n e h k) (refused o f l m) = (e ∙ refusal-one (no-roles-one n o) ∙ sym f, h ∙ sym l, k ∙ sym m)
-  roles-one (refused n e h k) (done b t w f c) = absurd (done-not b t w n)
-  roles-one (done a s r e c) (refused o f l m) = absurd (done-not a s r o)
+  roles-one (refused n e h k) (done b t w f c) = absurd (roles-not b t w n)
+  roles-one (done a s r e c) (refused o f l m) = absurd (roles-not a s r o)
   roles-one (done a s r e c) (done b t w f d) = let one = completed-one c d in (e ∙ sym f, one .0, one .1)
 
 -- what becomes of a role: a mark is above 2, no policy completes its marks, or its stretch holds the least that does

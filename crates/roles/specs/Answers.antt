@@ -2,19 +2,15 @@
 -- are lent. Assumes nothing.
 use Prim.Native.Nat.{ℕ, _*_, _≤_, _<_}
 use mathlib.Core.Path.{_≡_}
-use mathlib.Core.Logic.{_≢_}
 use mathlib.Core.List.{List}
-use lib.ListN.{length, getD, take, drop}
+use lib.ListN.{length, getD, drop}
 use Rattle.table.specs.Privilege.{privileges}
-use Rattle.table.specs.Check.{Accepted, TableAnswer}
+use Rattle.table.specs.Check.{Accepted}
+use Rattle.policy.specs.Roles.{stretch, NoRoles}
 use Rattle.verdict.specs.Answers.{refusal}
 use Rattle.verdict.specs.Answers as answers
 use Rattle.verdict.specs.declared.Answer.{Answer}
 use Rattle.completion.specs.Answers.{CompleteAnswer}
-
--- role r's own stretch of a run: "the roles' marks one after another", V for each
-abbrev pub stretch : List ℕ → ℕ → List ℕ → List ℕ
-stretch ws r run = take (privileges ws) (drop (r * privileges ws) run)
 
 -- "each is what the single call gives", by its number, on the role's own marks and its own stretch of the result
 pub record RoleAnswer (ws marks out : List ℕ) (number : ℕ) (after : List ℕ) : Type 0 where
@@ -30,16 +26,9 @@ pub record RolesCompleted (ws marks numbers out numbers-after after : List ℕ) 
   pub role : (r : ℕ) → r < length numbers → RoleAnswer ws (stretch ws r marks) (stretch ws r out) (getD numbers-after r 0) (stretch ws r after)
   pub rest : drop (length numbers * privileges ws) after ≡ drop (length numbers * privileges ws) out
 
--- "a table's number stops the whole call; 10 if the marks aren't V for each answer word; 12 under V for each word"
-pub data NoRoles (ws marks numbers out : List ℕ) (number place : ℕ) : Type 0 where
-  table : number ≢ 0 → TableAnswer ws number place → NoRoles ws marks numbers out number place
-  length-off : Accepted ws → length marks ≢ length numbers * privileges ws → number ≡ 10 → place ≡ 0 → NoRoles ws marks numbers out number place
-  short : Accepted ws → length marks ≡ length numbers * privileges ws → length out < length numbers * privileges ws → number ≡ 12 → place ≡ 0
-      → NoRoles ws marks numbers out number place
-
 -- out is what was lent as the result, after what it holds then
 pub data RolesAnswer (ws marks numbers out : List ℕ) (a : Answer) (numbers-after after : List ℕ) : Type 0 where
-  refused : {number place : ℕ} → NoRoles ws marks numbers out number place → a ≡ refusal number place → numbers-after ≡ numbers → after ≡ out
-      → RolesAnswer ws marks numbers out a numbers-after after
+  refused : {number place : ℕ} → NoRoles ws (length numbers) marks (length out) (length numbers * privileges ws) number place → a ≡ refusal number place
+      → numbers-after ≡ numbers → after ≡ out → RolesAnswer ws marks numbers out a numbers-after after
   done : Accepted ws → length marks ≡ length numbers * privileges ws → length numbers * privileges ws ≤ length out → a ≡ answers.done 0
       → RolesCompleted ws marks numbers out numbers-after after → RolesAnswer ws marks numbers out a numbers-after after

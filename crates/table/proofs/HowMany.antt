@@ -1,10 +1,10 @@
 -- How many numbers have a property: there is one answer, and it is the length of every list that holds each of them once. Assumes nothing.
 use Prim.Native.Nat.{ℕ, zero, suc, _+_, _≤_, _<_}
 use mathlib.Core.Path.{_≡_, refl, sym, ap, subst, _∙_}
-use mathlib.Core.Logic.{_≢_, inl, inr}
+use mathlib.Core.Logic.{_≢_, _⊎_, inl, inr}
 use mathlib.Core.Bool.{Bool, true, false}
 use mathlib.Core.List.{List, [], _∷_}
-use native.Mathlib.Nat.{eq-or-lt-of-le, suc-inj, add-zero, add-suc}
+use native.Mathlib.Nat.{eq-or-lt-of-le, suc-inj, add-zero, add-suc, suc-add}
 use native.Mathlib.Numerals.{add-one}
 use native.Mathlib.Omega.{arith}
 use lib.Dec.{T}
@@ -51,6 +51,49 @@ pub some-many : {P : ℕ → Type 0} {n c : ℕ} → HowMany P n c → c ≢ 0 �
 some-many none d = absurd (d refl)
 some-many (one-more {n = n} a p) d = (n, omega arith, p)
 some-many (no-more a f) d = let r = some-many a d in (r .0, omega (arith, r .1), r .2)
+
+-- all numbers have it exactly if the answer is n
+pub many-all : {P : ℕ → Type 0} (n : ℕ) → ((q : ℕ) → q < n → P q) → HowMany P n n
+many-all zero h = none
+many-all (suc n) h = one-more (many-all n (λ q l. h q (omega arith))) (h n (omega arith))
+
+pub many-full : {P : ℕ → Type 0} {n c : ℕ} → HowMany P n c → ((q : ℕ) → q < n → ¬ ¬ P q) → c ≡ n
+many-full none h = refl
+many-full (one-more a p) h = ap suc (many-full a (λ q l. h q (omega arith)))
+many-full (no-more {n = n} a d) h = absurd (h n (omega arith) d)
+
+-- no fewer have what follows from it
+pub many-fewer : {P Q : ℕ → Type 0} {n c k : ℕ} → ((q : ℕ) → q < n → P q → ¬ ¬ Q q) → HowMany P n c → HowMany Q n k → c ≤ k
+many-fewer f none none = omega arith
+many-fewer f (one-more a p) (one-more b q) = omega (arith, many-fewer (λ q l. f q (omega arith)) a b)
+many-fewer f (one-more {n = n} a p) (no-more b d) = absurd (f n (omega arith) p d)
+many-fewer f (no-more a e) (one-more b q) = omega (arith, many-fewer (λ q l. f q (omega arith)) a b)
+many-fewer f (no-more a e) (no-more b d) = many-fewer (λ q l. f q (omega arith)) a b
+
+-- two properties that no number has both: as many have one of them as have each together
+pub many-either : {P Q : ℕ → Type 0} {n c k : ℕ} → ((q : ℕ) → q < n → P q → ¬ Q q) → HowMany P n c → HowMany Q n k → HowMany (λ q. P q ⊎ Q q) n (c + k)
+many-either f none none = none
+many-either f (one-more {n = n} a p) (one-more b q) = absurd (f n (omega arith) p q)
+many-either f (one-more {c = c} a p) (no-more {c = k} b d) = rw (suc-add c k) (one-more (many-either (λ q l. f q (omega arith)) a b) (inl p))
+many-either f (no-more {c = c} a e) (one-more {c = k} b q) = rw (add-suc c k) (one-more (many-either (λ q l. f q (omega arith)) a b) (inr q))
+many-either f (no-more a e) (no-more b d) = no-more (many-either (λ q l. f q (omega arith)) a b) (λ s. elim s [ inl p ↦ e p | inr q ↦ d q ])
+
+-- at most as many as each together have one of two
+pub many-union : {P Q : ℕ → Type 0} {n c k : ℕ} → HowMany P n c → HowMany Q n k → (m : ℕ) × HowMany (λ q. P q ⊎ Q q) n m × (m ≤ c + k)
+many-union none none = (0, none, omega arith)
+many-union (one-more a p) (one-more b q) = let u = many-union a b in (suc (u .0), one-more (u .1) (inl p), omega (arith, u .2))
+many-union (one-more a p) (no-more b d) = let u = many-union a b in (suc (u .0), one-more (u .1) (inl p), omega (arith, u .2))
+many-union (no-more a e) (one-more b q) = let u = many-union a b in (suc (u .0), one-more (u .1) (inr q), omega (arith, u .2))
+many-union (no-more a e) (no-more b d) = let u = many-union a b in (u .0, no-more (u .1) (λ s. elim s [ inl p ↦ e p | inr q ↦ d q ]), u .2)
+
+-- those of the first a, and those of the b behind them
+pub many-behind : {P Q : ℕ → Type 0} (a : ℕ) {b c k : ℕ} → ((q : ℕ) → q < b → P (a + q) → Q q) → ((q : ℕ) → q < b → Q q → P (a + q))
+    → HowMany P a c → HowMany Q b k → HowMany P (a + b) (c + k)
+many-behind {P} a {c = c} out into h none = rw (add-zero a, add-zero c) h
+many-behind {P} a {c = c} out into h (one-more {n = b} {c = k} m q) =
+    rw (add-suc a b, add-suc c k) (one-more (many-behind a (λ q l. out q (omega arith)) (λ q l. into q (omega arith)) h m) (into b (omega arith) q))
+many-behind {P} a {c = c} out into h (no-more {n = b} {c = k} m d) =
+    rw (add-suc a b) (no-more (many-behind a (λ q l. out q (omega arith)) (λ q l. into q (omega arith)) h m) (λ p. d (out b (omega arith) p)))
 
 -- one number more has it, and else the same
 pub many-more : {P Q : ℕ → Type 0} {n c : ℕ} (p : ℕ) → p < n → P p → ¬ Q p → ((q : ℕ) → q ≢ p → P q → Q q) → ((q : ℕ) → q ≢ p → Q q → P q)

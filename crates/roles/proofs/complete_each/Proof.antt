@@ -5,7 +5,7 @@ use native.Mathlib.Omega.{arith}
 use borrow.Author.Needs.{needs}
 use denote.Ref.{now}
 use lib.ListN.{length, length-take, length-drop}
-use Rattle.roles.proofs.Stretches.{stretch-end, stretch-within}
+use Rattle.policy.proofs.Stretches.{stretch-end, stretch-within}
 use Rattle.roles.proofs.Progress.{Upto, upto-start, upto-next, upto-all}
 use Rattle.roles.proofs.complete_each.Statement.{statement}
 use Rattle.roles.proofs.complete_each.Tie as tie

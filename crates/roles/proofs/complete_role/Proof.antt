@@ -10,7 +10,7 @@ use Rattle.verdict.proofs.Firsts.{verdict-clean, verdict-broken, no-tag}
 use Rattle.completion.specs.Answers.{refused, none, given}
 use Rattle.completion.proofs.Completing.{broken-none}
 use Rattle.completion.proofs.Least.{completed-least}
-use Rattle.roles.proofs.Stretches.{none-behind}
+use Rattle.policy.proofs.Stretches.{none-behind}
 use Rattle.roles.proofs.complete_role.Statement.{statement}
 use Rattle.roles.proofs.complete_role.Tie as tie
 

@@ -11,7 +11,8 @@ use Rattle.table.specs.Check.{Accepted}
 use Rattle.table.specs.steps.Found.{Tells}
 use Rattle.table.proofs.Lowest.{told-yes, told-no}
 use Rattle.policy.proofs.Policies.{table-accepted}
-use Rattle.roles.specs.Answers.{table, length-off, short, refused, done}
+use Rattle.policy.specs.Roles.{table, length-off, short}
+use Rattle.roles.specs.Answers.{refused, done}
 use Rattle.roles.proofs.complete_roles.Statement.{statement}
 use Rattle.roles.proofs.complete_roles.Tie as tie
 
