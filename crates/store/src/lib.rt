@@ -1,5 +1,5 @@
-// The twelve calls for programs in C and Rust: runs and lengths in, an outcome out. include/finnedscarf.h declares them.
-// Contracts cite specs/Outcomes for the outcome, and the definitions of the crate that makes the call for the answer.
+// The fourteen calls for programs in C and Rust: runs and lengths in, an outcome or a sheet out. include/finnedscarf.h declares them.
+// Contracts cite specs/Outcomes for the outcome, and the definitions of the crate that makes the call for the answer and for the sheet.
 ghost use mathlib.Core.Path.{_≡_};
 ghost use Rattle.verdict.specs.Answers.{JudgeAnswer};
 ghost use Rattle.completion.specs.Answers.{CompleteAnswer};
@@ -9,7 +9,10 @@ ghost use Rattle.roles.specs.Answers.{RolesAnswer};
 ghost use Rattle.pairs.specs.Maps.{maps};
 ghost use Rattle.maps.specs.Answers.{JudgeMapsAnswer, CompleteMapsAnswer, MendMapsAnswer, ProposeMapsAnswer};
 ghost use Rattle.carry.specs.Answers.{CarryAnswer};
+ghost use Rattle.sheet.specs.Answers.{MonthAnswer};
+ghost use Rattle.adding.specs.Answers.{AddAnswer};
 ghost use Rattle.store.specs.Outcomes.{outcomeOf, CheckAnswer, ReadAnswer, Told};
+use adding::add_sheets;
 use carry::carry_marks;
 use completion::complete;
 use dtd::read_dtd;
@@ -20,6 +23,8 @@ use maps::mend_maps;
 use mending::mend;
 use proposing::judge_mend;
 use roles::complete_roles;
+use sheet::Sheet;
+use sheet::month_sheet;
 use table::check_table;
 use verdict::Answer;
 use verdict::judge_policy;
@@ -204,4 +209,33 @@ pub extern "C" fn finnedscarf_carry_marks(
     ensures { λ r. ⌜ Told (λ a. CarryAnswer (now («old_words» .entry)) (now («old_marks» .entry)) (now («new_words» .entry)) (now («new_numbers» .entry)) (now (out .entry)) (now (lost .entry)) a (now (out .exit)) (now (lost .exit))) r ⌝ }
 {
     outcome_of(carry_marks(old_words, old_marks, new_words, new_numbers, out, lost))
+}
+
+// Counts the roles of a month, whose marks stand one after another: refuses with 1 to 10, 12 or 19 and leaves the counts as they were, or answers how many
+// roles are clean, break each condition and are refused, and the leaders, writes three numbers for each privilege into the counts and keeps their rest.
+#[no_mangle]
+pub extern "C" fn finnedscarf_month_sheet(
+    words: &[u16],
+    roles: u32,
+    marks: &[u8],
+    counts: &mut [u32],
+) -> Sheet
+    ensures { λ r. ⌜ MonthAnswer (now (words .entry)) roles (now (marks .entry)) (now (counts .entry)) r (now (counts .exit)) ⌝ }
+{
+    month_sheet(words, roles, marks, counts)
+}
+
+// Adds two sheets, each with its counts: refuses with 1 to 9, 12, 19, 29 or 30 and leaves the counts as they were, or answers the sum, adds the second
+// sheet's counts to the first one's and keeps their rest.
+#[no_mangle]
+pub extern "C" fn finnedscarf_add_sheets(
+    words: &[u16],
+    sheet: Sheet,
+    counts: &mut [u32],
+    more: Sheet,
+    more_counts: &[u32],
+) -> Sheet
+    ensures { λ r. ⌜ AddAnswer (now (words .entry)) sheet (now (counts .entry)) more (now («more_counts» .entry)) r (now (counts .exit)) ⌝ }
+{
+    add_sheets(words, sheet, counts, more, more_counts)
 }

@@ -178,7 +178,7 @@ fn is_spoilt(flags: &[u8; 256], kids: &[u16], square: &[u16; 16], i: usize) -> b
 }
 
 // The first breach of condition 3 at the choice x, whose square tells what is reached.
-fn cycle_breach(
+pub fn cycle_breach(
     words: &[u16],
     marks: &[u8],
     flags: &[u8; 256],
