@@ -7,6 +7,7 @@ use mathlib.Core.Bool.{Bool, true, false, _&&_, _||_, false≢true, and-eq-true-
 use mathlib.Core.List.{List}
 use native.Mathlib.Nat.{eq-or-lt-of-le}
 use native.Mathlib.Omega.{arith}
+use lib.ListN.{getD}
 use Rattle.table.specs.Words.{types}
 use Rattle.table.specs.Rule.{IsChoice, IsStar}
 use Rattle.table.specs.Check.{Accepted}
@@ -15,7 +16,7 @@ use Rattle.table.specs.steps.Found.{Tells}
 use Rattle.table.proofs.Lowest.{told-yes, told-true, tells-as, tells-by}
 use Rattle.verdict.specs.Below.{ForbiddenBelow}
 use Rattle.verdict.specs.Breaches.{conditionNumber, BreachOf, key, FirstSpot}
-use Rattle.verdict.specs.steps.Spoils.{Agree}
+use Rattle.verdict.specs.steps.Spoils.{Flagged, Agree}
 use Rattle.verdict.specs.steps.Visits.{Searched, none, first, BreachAt, CycleAt}
 use Rattle.verdict.specs.declared.Spot.{Spot}
 use Rattle.verdict.specs.declared.Condition.{Condition}
@@ -23,6 +24,7 @@ use Rattle.verdict.specs.declared.Condition.the-variants.{None, InsertDelete, C
 use Rattle.verdict.proofs.Firsts.{breach-type, at-none, searched-first}
 use Rattle.verdict.proofs.Breached.{star-only, choice-only}
 use Rattle.verdict.proofs.Flagged.{breach-as}
+use Rattle.verdict.proofs.Spoiling.{breach-spoils}
 use Rattle.broken.specs.Breaks.{Breaks}
 use Rattle.broken.specs.steps.Asking.{BreaksAt, Asked, Added, BrokenIn}
 use Rattle.broken.specs.declared.Broken.{Broken}
@@ -213,3 +215,21 @@ broken-in {ws} {marks} {B} a g = asked-as onto back
     back c b =
         let h = breach-as marks a (g .back) (b .spot) (b .privilege) (b .breach) in
         record { spot = b .spot; privilege = h .0; of = b .of; breach = h .1; here = breach-type ws marks B (b .spot) (h .0) (h .1) }
+
+-- by flags that are right, a type that has no flag has no breach
+pub unflagged-none : {ws marks : List ℕ} (flags : List ℕ) {x : ℕ} (known : Broken) → Accepted ws → x < types ws → Agree ws (Flagged flags) (ForbiddenBelow ws marks) → getD flags x 0 ≢ 1
+    → Added (BreaksAt ws marks (Flagged flags) (λ y. y ≡ x)) known known
+unflagged-none {ws} {marks} flags {x} known a l g d = record {
+  insert-delete = flag-kept (At InsertDelete) (known .«insert_delete») no;
+  chain = flag-kept (At Chain) (known .chain) no;
+  cycle = flag-kept (At Cycle) (known .cycle) no;
+}
+  where
+    At : Condition → Type 0
+    At = BreaksAt ws marks (Flagged flags) (λ y. y ≡ x)
+
+    no : {c : Condition} → ¬ BreaksAt ws marks (Flagged flags) (λ y. y ≡ x) c
+    no b =
+        let real = breach-as marks a (g .onto) (b .spot) (b .privilege) (b .breach) in
+        let spoilt = breach-spoils a (b .spot) (real .0) (real .1) in
+        d (subst (λ (y : ℕ). getD flags y 0 ≡ 1) (b .here) (g .back (b .spot .element) (spoilt .0) (omega (arith, b .here)) (spoilt .1) .1))

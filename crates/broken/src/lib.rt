@@ -12,12 +12,13 @@ ghost use Rattle.table.specs.steps.Order.{BottomUp};
 ghost use Rattle.policy.specs.Marks.{Allowed, Policy};
 ghost use Rattle.policy.specs.Reached.{Reached};
 ghost use Rattle.policy.specs.steps.Squares.{Square, ForbiddenIn};
-ghost use Rattle.verdict.specs.steps.Spoils.{Flagged};
+ghost use Rattle.verdict.specs.Below.{ForbiddenBelow};
+ghost use Rattle.verdict.specs.steps.Spoils.{Flagged, Agree};
 ghost use Rattle.verdict.specs.steps.Visits.{Visited};
 ghost use Rattle.verdict.specs.declared.Condition.the-variants.{Cycle};
 ghost use Rattle.broken.specs.steps.Asking.{BreaksAt, Asked, Added, BrokenIn};
-use policy::reach::reached;
 use policy::reach::reached_by;
+use policy::rows::allowed_rows;
 use policy::rows::read_rows;
 use table::privilege::Numbering;
 use table::privilege::gap_of;
@@ -104,7 +105,7 @@ fn add_cycle(
     if known.cycle {
         return known;
     }
-    let square = reached(words, marks, x, n);
+    let square = reached_by(words, marks, x, n, allowed_rows(marks, n));
     let cycle = has_cycle(words, marks, flags, x, kids, &square);
     Broken {
         insert_delete: known.insert_delete,
@@ -215,9 +216,27 @@ fn add_type(
     }
 }
 
-// The conditions that are broken by the flags. Where each one is, no further type is asked.
+// Adds what is broken at type x, by flags that are right: where nothing is forbidden below it, nothing is.
+fn add_spoilt(
+    words: &[u16],
+    marks: &[u8],
+    flags: &[u8; 256],
+    x: usize,
+    first: usize,
+    known: Broken,
+) -> Broken
+    requires { ⌜ Policy (now words) (now marks) × (x < types (now words)) × (first ≡ firstPrivilege (now words) x) × Agree (now words) (Flagged (now flags)) (ForbiddenBelow (now words) (now marks)) ⌝ }
+    ensures { λ r. ⌜ Added (BreaksAt (now (words .entry)) (now (marks .entry)) (Flagged (now (flags .entry))) (λ y. y ≡ x)) known r ⌝ }
+{
+    if flags[x] != 1 {
+        return known;
+    }
+    add_type(words, marks, flags, x, first, known)
+}
+
+// The conditions that are broken, by flags that are right. Where each one is, no further type is asked.
 fn broken_by(words: &[u16], marks: &[u8], flags: &[u8; 256]) -> Broken
-    requires { ⌜ Policy (now words) (now marks) ⌝ }
+    requires { ⌜ Policy (now words) (now marks) × Agree (now words) (Flagged (now flags)) (ForbiddenBelow (now words) (now marks)) ⌝ }
     ensures { λ r. ⌜ Asked (BreaksAt (now (words .entry)) (now (marks .entry)) (Flagged (now (flags .entry))) (λ y. y < types (now (words .entry)))) r ⌝ }
 {
     let gap = gap_of(words);
@@ -233,7 +252,7 @@ fn broken_by(words: &[u16], marks: &[u8], flags: &[u8; 256]) -> Broken
         if broken.insert_delete & broken.chain & broken.cycle {
             return broken;
         }
-        broken = add_type(words, marks, flags, x, first, broken);
+        broken = add_spoilt(words, marks, flags, x, first, broken);
         first += privileges_in(words, x, gap);
         x += 1;
     }

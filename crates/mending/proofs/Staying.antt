@@ -27,41 +27,12 @@ use Rattle.verdict.specs.declared.Spot.{Spot}
 use Rattle.verdict.specs.declared.Condition.{Condition}
 use Rattle.verdict.specs.declared.Condition.the-variants.{None, InsertDelete, Chain, Cycle}
 use Rattle.verdict.proofs.Firsts.{clean-all, none-clean}
+use Rattle.verdict.proofs.Spoiling.{forbidden-up, breach-spoils}
 use Rattle.verdict.proofs.PolicyTests.{barred}
 use Rattle.mending.specs.Mends.{Mends}
 use Rattle.mending.specs.steps.Taking.{Spoilt, CleanUpTo, Cleaned, Follows, take, TakenAt}
 use Rattle.mending.proofs.Counting.{allowedIn, allowed-most, allowed-less, taken-here, taken-other}
 use Rattle.mending.proofs.Mended.{takes-allowed, takes-own, follows-bound, follows-trans, follows-done}
-
--- what is forbidden below a type below y is forbidden below y
-forbidden-up : {ws marks : List ℕ} {x y q : ℕ} → ForbiddenBelow ws marks x q → Below ws x y → ForbiddenBelow ws marks y q
-forbidden-up f b = record { below = record { type = f .below .type; belongs = f .below .belongs; below = below-trans (f .below .below) b }; forbidden = f .forbidden }
-
-child-of : {ws : List ℕ} {x i : ℕ} → Accepted ws → x < types ws → i < countOf ws x → Below ws (childAt ws x i) x
-child-of {ws} {x} {i} a l h = down (childAt ws x i) (child-at a x i l h) here
-
--- a breach at x: something is forbidden below x
-breach-spoils : {ws m : List ℕ} → Accepted ws → (s : Spot) (p : ℕ) → IsBreach ws m s p → (q : ℕ) × ForbiddenBelow ws m (s .element) q
-breach-spoils {ws} {m} a s p h = go (s .condition) h
-  where
-    star : {x : ℕ} → IsStar ws x → StarBroken ws m (ForbiddenBelow ws m) x p → ForbiddenBelow ws m x p
-    star {x} i (at-exchange f e) = record {
-      below = record { type = x; belongs = rw e (edit-belongs ws (exchange x) (f .can)); below = here };
-      forbidden = rw e (f .forbidden);
-    }
-    star {x} i (at-below d r w) = forbidden-up w (child-of a (i .type) (omega (arith, facts a .star-one x i)))
-
-    go : (c : Condition) → BreachOf ws m (ForbiddenBelow ws m) c s p → (q : ℕ) × ForbiddenBelow ws m (s .element) q
-    go None g = absurd g
-    go InsertDelete g = (p, star (g .star) (g .broken))
-    go Chain g = (
-      p,
-      record {
-        below = record { type = s .element; belongs = rw (g .is) (edit-belongs ws (replace (s .element) (s .i) (s .j)) (g .can)); below = here };
-        forbidden = g .forbidden;
-      },
-    )
-    go Cycle g = (p, forbidden-up (g .below) (child-of a (g .choice .type) (reached-from (g .reached))))
 
 -- one allowed privilege p of x is forbidden, with something below x forbidden already
 module _ {ws m : List ℕ} {x p q₀ : ℕ} (own : Belongs ws p x) (a : Allowed m p) (f₀ : ForbiddenBelow ws m x q₀) where

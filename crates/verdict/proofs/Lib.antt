@@ -4,6 +4,7 @@ pub mod Tallies
 pub mod Firsts
 pub mod Breached
 pub mod Flagged
+pub mod Spoiling
 pub mod Breakers
 pub mod Forced
 pub mod Carried

@@ -1,5 +1,6 @@
 -- Where a cycle is known too there is nothing to add, and else what was asked is. Assumes nothing.
 use borrow.Author.Needs.{needs}
+use Rattle.policy.proofs.SquareLaws.{policy-readable}
 use Rattle.broken.proofs.Asking.{flag-up, choice-added, cycle-added}
 use Rattle.broken.proofs.add_cycle.Statement.{statement}
 use Rattle.broken.proofs.add_cycle.Tie as tie
@@ -10,17 +11,20 @@ returns c =
     let known = start .args .known in
     choice-added _ _ _ _ known (start .pre .2) (flag-up _ (known .chain) (start .pre .3)) (flag-up _ (known .cycle) (c .if1 .taken))
 
-reached-requires : tie.Need-reached-requires
-reached-requires c κs = search needs
+allowed-rows-requires : tie.Need-allowed-rows-requires
+allowed-rows-requires c κs = let pre = c .before .before .before .before .pre in policy-readable (pre .0 .policy) (pre .2) (pre .1)
+
+reached-by-requires : tie.Need-reached-by-requires
+reached-by-requires c κs = search needs
 
 has-cycle-requires : tie.Need-has-cycle-requires
 has-cycle-requires c κs = search needs
 
 returns-2 : tie.Need-returns-2
 returns-2 c =
-    let unknown = c .before .before .before in
+    let unknown = c .before .before .before .before in
     let start = unknown .before .before .before .before in
     cycle-added _ _ _ _ (start .args .known) (start .pre .2) (start .pre .3) (unknown .if1 .left) (c .has-cycle .result) (c .has-cycle .ensures)
 
 pub add-cycle-spec : {M : Type 1} → statement M
-add-cycle-spec = tie.close (tie.spec returns reached-requires has-cycle-requires returns-2)
+add-cycle-spec = tie.close (tie.spec returns allowed-rows-requires reached-by-requires has-cycle-requires returns-2)

@@ -25,7 +25,7 @@ is-type : (c : tie.In-loop Inv-loop μ-loop) → c .before .loop .x < types (now
 is-type c = omega (arith, c .loop-test .taken, c .before .before .types .ensures .is)
 
 gap-of-requires : tie.Need-gap-of-requires Inv-loop μ-loop
-gap-of-requires c κs = has-format (c .before .before .pre .accepted)
+gap-of-requires c κs = has-format (c .before .before .pre .0 .accepted)
 
 types-requires : tie.Need-types-requires Inv-loop μ-loop
 types-requires c κs = search needs
@@ -39,22 +39,23 @@ returns c =
     let at = loop .before .loop in
     before-all _ _ _ (omega (arith, is-type loop)) (c .if1 .taken) (at .inv .2)
 
-add-type-requires : tie.Need-add-type-requires Inv-loop μ-loop
-add-type-requires c κs =
+add-spoilt-requires : tie.Need-add-spoilt-requires Inv-loop μ-loop
+add-spoilt-requires c κs =
     let loop = c .before .before .before in
-    (loop .before .before .before .before .before .before .pre, is-type loop, loop .before .loop .inv .1)
+    let pre = loop .before .before .before .before .before .before .pre in
+    (pre .0, is-type loop, loop .before .loop .inv .1, pre .1)
 
 privileges-in-requires : tie.Need-privileges-in-requires Inv-loop μ-loop
 privileges-in-requires c κs =
     let loop = c .before .before .before .before in
     let gap = loop .before .before .before in
-    (has-record (gap .before .before .before .pre .accepted) (is-type loop), gap .gap-of .ensures .is)
+    (has-record (gap .before .before .before .pre .0 .accepted) (is-type loop), gap .gap-of .ensures .is)
 
 add-first : tie.Need-add-first Inv-loop μ-loop
 add-first c =
     let loop = c .before .before .before .before .before in
     let start = loop .before .before .before .before .before .before in
-    omega (arith, c .privileges-in .ensures .small, first-within (now (start .args .words)) (loop .before .loop .x) (omega (arith, is-type loop)), facts (start .pre .accepted) .privileges-few)
+    omega (arith, c .privileges-in .ensures .small, first-within (now (start .args .words)) (loop .before .loop .x) (omega (arith, is-type loop)), facts (start .pre .0 .accepted) .privileges-few)
 
 add-x : tie.Need-add-x Inv-loop μ-loop
 add-x c = search needs
@@ -68,7 +69,7 @@ loop-again c =
     let at = added .before .before .before .before .before .loop in (
       search needs,
       ap (λ (p : ℕ). p + c .privileges-in .result) (at .inv .1) ∙ rw (c .privileges-in .ensures .is) (sym (first-next _ (at .x))),
-      before-more _ _ _ (at .inv .2) (added .add-type .ensures),
+      before-more _ _ _ (at .inv .2) (added .add-spoilt .ensures),
     )
 
 returns-2 : tie.Need-returns-2 Inv-loop μ-loop
@@ -88,7 +89,7 @@ broken-by-spec =
     types-requires
     loop-holds
     returns
-    add-type-requires
+    add-spoilt-requires
     privileges-in-requires
     add-first
     add-x

@@ -9,7 +9,7 @@ flag-spoilt-requires : tie.Need-flag-spoilt-requires
 flag-spoilt-requires c κs = search needs
 
 broken-by-requires : tie.Need-broken-by-requires
-broken-by-requires c κs = search needs
+broken-by-requires c κs = (c .before .before .before .before .before .pre .0, flags-agree (c .before .flag-spoilt .ensures))
 
 returns : tie.Need-returns
 returns c =
