@@ -1,11 +1,10 @@
 -- Adding two sheets has one outcome: the sum, and what the counts hold. Assumes nothing.
-use Prim.Native.Nat.{ℕ, _+_, _*_, _<_}
+use Prim.Native.Nat.{ℕ, _*_, _<_}
 use mathlib.Core.Path.{_≡_, sym, _∙_}
 use mathlib.Core.Logic.{_≢_}
 use mathlib.Core.List.{List}
 use native.Mathlib.Omega.{arith}
 use lib.ListN.{getD}
-use Rattle.table.specs.Check.{Accepted}
 use Rattle.table.specs.Privilege.{privileges}
 use Rattle.table.proofs.Answers.{answer-one, accepted-answer, lowest-one}
 use Rattle.leaders.proofs.Leading.{leaders-one, leaders-as}

@@ -2,7 +2,7 @@
 // the parts.
 ghost use mathlib.Core.Path.{_≡_};
 ghost use Prim.Native.Nat.{ℕ, _+_, _*_, _≤_, _<_};
-ghost use lib.ListN.{length, getD};
+ghost use lib.ListN.{length};
 ghost use Rattle.table.specs.steps.Found.{Lowest, Tells};
 ghost use Rattle.adding.specs.Sums.{add, CountsAdded, Held, FiguresHeld};
 ghost use Rattle.adding.specs.Answers.{Whole, AddAnswer};

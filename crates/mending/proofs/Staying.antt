@@ -9,17 +9,15 @@ use native.Mathlib.Decide.{ℕ-discrete}
 use native.Mathlib.Omega.{arith}
 use lib.ListN.{length, getD, set, length-set}
 use Rattle.table.specs.Words.{types}
-use Rattle.table.specs.Rule.{childAt, countOf, IsStar}
+use Rattle.table.specs.Rule.{childAt}
 use Rattle.table.specs.Privilege.{Belongs, privileges, exchangeOf, exchange, replace}
-use Rattle.table.specs.Below.{Below, here, down}
-use Rattle.table.specs.Check.{Accepted}
+use Rattle.table.specs.Below.{here}
 use Rattle.table.proofs.Test.{settle}
-use Rattle.table.proofs.Belows.{below-trans}
 use Rattle.table.proofs.Privileges.{belongs-one, belongs-below, edit-belongs}
-use Rattle.table.proofs.Facts.{facts, child-at}
+use Rattle.table.proofs.Facts.{facts}
 use Rattle.policy.specs.Marks.{Allowed, Forbidden, Policy}
 use Rattle.policy.proofs.Policies.{marked-within}
-use Rattle.policy.proofs.Reaches.{reached-from, reached-mono}
+use Rattle.policy.proofs.Reaches.{reached-mono}
 use Rattle.policy.proofs.Renewals.{both-mono, renewed-mono}
 use Rattle.verdict.specs.Below.{ForbiddenBelow}
 use Rattle.verdict.specs.Breaches.{StarBroken, at-exchange, at-below, BreachOf, IsBreach}

@@ -1,10 +1,10 @@
 -- Counting the roles of a month has one outcome: the sheet, and what the counts hold. Assumes nothing.
 use Prim.Native.Nat.{ℕ, _+_, _-_, _*_, _/_, _%_, _≤_, _<_}
-use mathlib.Core.Path.{_≡_, refl, sym, ap, _∙_}
+use mathlib.Core.Path.{_≡_, sym, _∙_}
 use mathlib.Core.Logic.{_⊎_, inl, inr}
 use mathlib.Core.List.{List}
 use native.Mathlib.Omega.{arith}
-use lib.ListN.{length, getD, drop}
+use lib.ListN.{getD}
 use lib.Seq.{ext-getD, getD-drop}
 use Rattle.table.specs.Privilege.{privileges}
 use Rattle.table.proofs.HowMany.{many-one}

@@ -1,10 +1,10 @@
 -- The figures and the counts of so many roles, and of one more. Assumes nothing.
 use Prim.Native.Nat.{ℕ, _+_, _-_, _*_, _<_}
-use mathlib.Core.Path.{_≡_, refl, sym, _∙_}
+use mathlib.Core.Path.{_≡_, sym, _∙_}
 use mathlib.Core.Bool.{Bool, true, false, not, _||_}
 use mathlib.Core.List.{List, []}
 use native.Mathlib.Omega.{arith}
-use lib.ListN.{length, getD, take, drop, replicate, length-replicate, getD-replicate}
+use lib.ListN.{getD, take, drop, replicate, length-replicate, getD-replicate}
 use Rattle.table.specs.HowMany.{HowMany, none}
 use Rattle.table.specs.Privilege.{privileges}
 use Rattle.table.specs.steps.Found.{Tells}
@@ -12,15 +12,14 @@ use Rattle.table.proofs.HowMany.{many-most, many-next, many-skip, many-none, ma
 use Rattle.policy.specs.Marks.{Fit}
 use Rattle.policy.specs.Roles.{stretch}
 use Rattle.verdict.specs.Conditions.{Clean}
-use Rattle.verdict.specs.declared.Condition.{Condition}
 use Rattle.verdict.specs.declared.Condition.the-variants.{InsertDelete, Chain, Cycle}
 use Rattle.broken.specs.Breaks.{Breaks}
 use Rattle.broken.specs.steps.Asking.{BrokenIn}
 use Rattle.broken.specs.declared.Broken.{Broken}
 use Rattle.broken.proofs.Breaks.{clean-unbroken, unbroken-clean}
-use Rattle.sheet.specs.Sheets.{RefusedRole, Has, RolesWith, FiguresOf, markAt, CountsOf}
+use Rattle.sheet.specs.Sheets.{Has, markAt}
 use Rattle.sheet.specs.Answers.{noFigures}
-use Rattle.sheet.specs.steps.Counting.{up, Room, FiguresRoom, unbroken, withRole, withRefused, Adds, one, same, MarksCounted, RoleCounted, bent, counted, Counted}
+use Rattle.sheet.specs.steps.Counting.{up, Room, FiguresRoom, unbroken, Adds, one, same, RoleCounted, bent, counted, Counted}
 use Rattle.sheet.specs.declared.Figures.{Figures}
 
 -- the next number is looked at, by a flag

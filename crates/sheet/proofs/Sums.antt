@@ -1,13 +1,12 @@
 -- The figures sum up: each role is refused, or has one mark for each privilege and is clean or not. Assumes nothing.
 use Prim.Native.Nat.{ℕ, zero, suc, _+_, _*_, _≤_, _<_}
-use mathlib.Core.Path.{_≡_, refl, sym, _∙_}
+use mathlib.Core.Path.{_≡_, refl}
 use mathlib.Core.Logic.{_⊎_, inl, inr}
 use mathlib.Core.List.{List}
 use native.Mathlib.Omega.{arith}
 use native.Mathlib.Nat.{add-zero}
 use lib.ListN.{length, getD}
 use Rattle.table.specs.Privilege.{privileges}
-use Rattle.table.specs.Check.{Accepted}
 use Rattle.table.proofs.HowMany.{many-either, many-full, many-fewer, many-union}
 use Rattle.policy.specs.Marks.{Legal, Fit}
 use Rattle.policy.specs.Roles.{stretch}

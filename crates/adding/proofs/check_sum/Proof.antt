@@ -1,11 +1,10 @@
 -- The checks in their order. Assumes nothing.
 use borrow.Author.Needs.{needs}
 use borrow.Author.Tests.{not-true, not-false}
-use Prim.Native.Nat.{ℕ, _*_, _≤_, _<_}
-use mathlib.Core.Path.{_≡_, refl, sym}
+use Prim.Native.Nat.{ℕ, _<_}
+use mathlib.Core.Path.{_≡_, _∙_}
 use native.Mathlib.Omega.{arith}
 use denote.Ref.{now}
-use lib.ListN.{length}
 use Rattle.table.specs.Privilege.{privileges}
 use Rattle.table.specs.Check.{Accepted}
 use Rattle.table.proofs.Facts.{facts}
@@ -131,9 +130,10 @@ told-requires-6 c κs = search needs
 returns-7 : tie.Need-returns-7
 returns-7 c =
     let asked = c .before .before in
+    let t = accepted (first asked) in
     let told = c .told6 .ensures in
-    refused (over (accepted (first asked) .0) (whole (third asked)) (done (fifth asked)) (told .0)
-    (rw (told .1, accepted (first asked) .1) (over-figures _ _ _ _ _ (none-over asked)
+    refused (over (t .0) (whole (third asked)) (done (fifth asked)) (told .0)
+    (rw (told .1 ∙ t .1) (over-figures _ _ _ _ _ (none-over asked)
     (told-no (asked .figures-held .result) (asked .figures-held .ensures) (not-true (asked .figures-held .result) (c .before .if6 .taken))))))
 
 returns-8 : tie.Need-returns-8

@@ -1,7 +1,7 @@
 -- A search for the lowest privilege. Assumes nothing.
 use borrow.Author.Needs.{needs}
 use borrow.Author.Tests.{not-true, not-false}
-use Prim.Native.Nat.{_-_, _<_}
+use Prim.Native.Nat.{_-_}
 use native.Mathlib.Omega.{arith}
 use Rattle.table.proofs.Lowest.{Passed, passed-start, passed-more, passed-hit, passed-all, told-yes, told-no}
 use Rattle.adding.specs.steps.Checking.{CountsHeld}

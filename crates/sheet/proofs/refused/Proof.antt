@@ -1,8 +1,5 @@
 -- All but number and place is 0. Assumes nothing.
 use borrow.Author.Needs.{needs}
-use mathlib.Core.Path.{ap}
-use Rattle.sheet.specs.declared.Figures.{Figures}
-use Rattle.sheet.specs.declared.Sheet.{Sheet}
 use Rattle.sheet.proofs.refused.Statement.{statement}
 use Rattle.sheet.proofs.refused.Tie as tie
 

@@ -1,11 +1,9 @@
 -- The marks before the loop's place are counted, and no number from there on has changed. Assumes nothing.
 use borrow.Author.Needs.{needs}
-use Prim.Native.Nat.{ℕ, _+_, _-_, _*_, _≤_, _<_}
-use mathlib.Core.Path.{_≡_}
+use Prim.Native.Nat.{_+_, _-_, _*_, _≤_, _<_}
 use native.Mathlib.Omega.{arith}
 use denote.Ref.{now}
-use lib.ListN.{length, getD}
-use Rattle.sheet.specs.steps.Counting.{SlotOf}
+use lib.ListN.{length}
 use Rattle.sheet.proofs.Slots.{CountedTo, counted-none, counted-more, counted-all}
 use Rattle.sheet.proofs.counts.count_marks.Statement.{statement}
 use Rattle.sheet.proofs.counts.count_marks.Tie as tie

@@ -1,7 +1,7 @@
 -- A role with a mark above 2 is refused; else its marks are counted, and the conditions that it breaks. Assumes nothing.
 use borrow.Author.Needs.{needs}
 use borrow.Author.Tests.{not-true, not-false}
-use mathlib.Core.Path.{_≡_, refl}
+use mathlib.Core.Path.{refl}
 use native.Mathlib.Omega.{arith}
 use denote.Ref.{now}
 use Rattle.table.specs.Privilege.{privileges}

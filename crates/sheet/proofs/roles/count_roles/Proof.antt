@@ -1,11 +1,6 @@
 -- From counts that are 0 each role is counted, or there is nothing to count. Assumes nothing.
 use borrow.Author.Needs.{needs}
-use Prim.Native.Nat.{_*_}
-use mathlib.Core.Path.{_≡_, sym, _∙_}
-use mathlib.Core.List.{List}
-use denote.Ref.{now}
-use lib.ListN.{replicate}
-use Rattle.table.specs.Privilege.{privileges}
+use mathlib.Core.Path.{sym, _∙_}
 use Rattle.sheet.proofs.Counting.{counted-empty}
 use Rattle.sheet.proofs.roles.count_roles.Statement.{statement}
 use Rattle.sheet.proofs.roles.count_roles.Tie as tie

@@ -1,8 +1,5 @@
 -- Figure by figure. Assumes nothing.
 use borrow.Author.Needs.{needs}
-use mathlib.Core.Path.{sym, ap, _∙_}
-use mathlib.Core.Bool.{Bool}
-use Rattle.sheet.specs.steps.Counting.{up}
 use Rattle.sheet.proofs.roles.with_role.Statement.{statement}
 use Rattle.sheet.proofs.roles.with_role.Tie as tie
 
