@@ -4,3 +4,4 @@ pub mod Slots
 pub mod Given
 pub mod Answers
 pub mod Sums
+pub mod Judging
