@@ -1,18 +1,20 @@
-// Measures the twelve calls of the proved library, all but `read_dtd` against the second program and `fast`. bench/run builds and runs it; the modes:
+// Measures the fourteen calls of the proved library, all but `read_dtd` against the second program and `fast`. bench/run builds and runs it; modes:
 //   check               reads a stream of cases (second/README.md) and compares all makes
 //   time                nanoseconds a call
 //   growth              the same for tables that double
 //   stack               bytes of stack
 //   roles               nanoseconds a role of complete_roles, and a single call on each role
 //   maps                nanoseconds a call over bit maps, and on the marks that they spell
+//   sheets              nanoseconds a role of month_sheet, and a single verdict on each role
 //   texts               nanoseconds a call of read_dtd, a line for each text
 //   lengths             nanoseconds a byte of texts that double
 //   documents FOLDER    writes a document for each text, for another parser
 //   list                what is measured: CALL INPUT and the number of its cases
 //   shows               what is measured of complete_roles: an input of complete, and the number of roles
+//   months              what is measured of month_sheet: the input whose marks the roles have, and the number of roles
 //   tables              the inputs of `growth`
-//   count MAKE CALL INPUT TIMES   makes a call on an input so many times, to be counted from outside; of complete_roles an input is INPUT/ROLES, and
-//                       CALL may be complete_each, the single call on each of the roles
+//   count MAKE CALL INPUT TIMES   makes a call on an input so many times, to be counted from outside; of complete_roles and month_sheet an input is
+//                       INPUT/ROLES, and CALL may be complete_each or judge_each, the single call on each of the roles
 
 mod calls;
 mod carry;
@@ -26,6 +28,7 @@ mod proved;
 mod revisions;
 mod roles;
 mod rounds;
+mod sheets;
 mod stack;
 mod texts;
 
@@ -68,7 +71,7 @@ fn compare_on(case: &Case, call: Call, at: &str) {
 fn check() {
     let mut stream = Vec::new();
     std::io::stdin().read_to_end(&mut stream).unwrap_or_else(|_| fail("cannot read the input"));
-    let plain::Cases { policies, texts, shows, maps, moves } = plain::cases_of(&stream);
+    let plain::Cases { policies, texts, shows, maps, moves, months, sums } = plain::cases_of(&stream);
     for (k, case) in policies.iter().enumerate() {
         CALLS.iter().for_each(|&call| compare_on(case, call, &format!("case {}", k)));
     }
@@ -85,6 +88,9 @@ fn check() {
     println!("equal: {} moves to a revised schema, and {} measured ones", moves.len(), carry::check(&moves));
     println!("equal: {} shows of several roles, and {} measured ones", shows.len(), roles::check(&shows));
     println!("equal: {} DTD texts, and {} measured ones", texts.len(), dtd::check(&texts));
+    let (own_months, own_sums) = sheets::check(&months, &sums);
+    println!("equal: {} months of roles, and {} measured ones", months.len(), own_months);
+    println!("equal: {} sums of sheets, and {} measured ones", sums.len(), own_sums);
 }
 
 // ---------------------------------------------------------------- time
@@ -124,11 +130,13 @@ fn time() {
     roles::time();
     maps::time();
     carry::time();
+    sheets::time();
 }
 
 fn growth() {
     println!("ns a call, proved and fast, least of the rounds\n");
-    let names = CALLS.map(Call::name).into_iter().chain(maps::CALLS.map(maps::name)).chain([carry::NAME]);
+    let others = [carry::NAME, sheets::MONTH, sheets::ADD];
+    let names = CALLS.map(Call::name).into_iter().chain(maps::CALLS.map(maps::name)).chain(others);
     let names: Vec<&str> = names.collect();
     println!("| Table | {} |", names.join(" | "));
     println!("|---|{}", "---|".repeat(names.len()));
@@ -141,6 +149,7 @@ fn growth() {
         }
         maps::CALLS.iter().for_each(|&call| line += &maps::growth(call, size));
         line += &carry::growth(size);
+        line += &sheets::growth(size);
         println!("| {} |{}", doubling(Call::Mend)[size].name, line);
     }
 }
@@ -178,6 +187,8 @@ fn stacks() {
         println!("| {} | {} |", maps::name(call), found.join(" | "));
     }
     println!("| {} | {} |", carry::NAME, MAKES.each_ref().map(carry::most_stack).join(" | "));
+    println!("| {} | {} |", sheets::MONTH, MAKES.each_ref().map(sheets::most_stack).join(" | "));
+    println!("| {} | {} |", sheets::ADD, MAKES.each_ref().map(sheets::most_stack_of_sums).join(" | "));
     println!("| {} | {} |", dtd::NAME, MAKES.each_ref().map(dtd::most_stack).join(" | "));
 }
 
@@ -189,6 +200,7 @@ fn list() {
     }
     maps::list();
     carry::list();
+    sheets::list();
     dtd::list();
 }
 
@@ -214,7 +226,7 @@ fn make_of(name: &str) -> &'static Make {
 }
 
 fn times_of(text: &str) -> usize {
-    text.parse().unwrap_or_else(|_| fail("TIMES is a number"))
+    text.parse().unwrap_or_else(|_| fail("TIMES and ROLES are numbers"))
 }
 
 fn main() {
@@ -227,23 +239,28 @@ fn main() {
         ["stack"] => stacks(),
         ["roles"] => roles::time_roles(),
         ["maps"] => maps::time_maps(),
+        ["sheets"] => sheets::time_roles(),
         ["texts"] => dtd::time(),
         ["lengths"] => dtd::growth(),
         ["documents", folder] => dtd::documents(folder),
         ["list"] => list(),
         ["shows"] => roles::list(),
+        ["months"] => sheets::list_months(),
         ["tables"] => tables(),
         ["count", make, dtd::NAME, text, times] => dtd::count(make, text, times),
         ["count", make, carry::NAME, revision, times] => carry::count(make, revision, times),
         ["count", make, roles::NAME, show, times] => roles::count(make, show, times),
         ["count", make, roles::EACH, show, times] => roles::count_each(make, show, times),
+        ["count", make, sheets::MONTH, month, times] => sheets::count(make, month, times),
+        ["count", make, sheets::EACH, month, times] => sheets::count_each(make, month, times),
+        ["count", make, sheets::ADD, sum, times] => sheets::count_sums(make, sum, times),
         ["count", make, call, input, times] => match maps::call_of(call) {
             Some(call) => maps::count(make, call, input, times),
             None => count(make, call, input, times),
         },
         _ => fail(
-            "modes: check | time | growth | stack | roles | maps | texts | lengths | documents FOLDER | list | shows | tables | \
-             count MAKE CALL INPUT TIMES",
+            "modes: check | time | growth | stack | roles | maps | sheets | texts | lengths | documents FOLDER | list | shows | \
+             months | tables | count MAKE CALL INPUT TIMES",
         ),
     }
 }

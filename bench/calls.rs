@@ -1,5 +1,6 @@
 // The calls, of three makes: proved, fast and second. Five take a table and a policy, four of these also a policy as two bit maps, one a table and
-// the policies of all roles, and one a policy and a revised table; the last reads DTD text, and has no fast make.
+// the policies of all roles, one a policy and a revised table, one a table and the policies of a month's roles, and one a table and two sheets; the
+// last reads DTD text, and has no fast make.
 
 use crate::{fast, plain, proved};
 
@@ -12,11 +13,16 @@ impl Outcome {
     }
 }
 
+/// What a call on sheets answers.
+pub use crate::proved::Sheet;
+
 pub type CompleteRoles = fn(&[u16], &[u8], &mut [u16], &mut [u8]) -> Outcome;
 pub type JudgeMaps = fn(&[u16], &[u8], &[u8]) -> Outcome;
 pub type WriteMaps = fn(&[u16], &[u8], &[u8], &mut [u8], &mut [u8]) -> Outcome;
 pub type JudgeMendMaps = fn(&[u16], &[u8], &[u8], &[u8], &[u8]) -> Outcome;
 pub type CarryMarks = fn(&[u16], &[u8], &[u16], &[u16], &mut [u8], &mut [u8]) -> Outcome;
+pub type MonthSheet = fn(&[u16], u32, &[u8], &mut [u32]) -> Sheet;
+pub type AddSheets = fn(&[u16], Sheet, &mut [u32], Sheet, &[u32]) -> Sheet;
 pub type ReadDtd = fn(&[u8], &mut [u16]) -> Outcome;
 
 pub struct Make {
@@ -32,6 +38,8 @@ pub struct Make {
     pub mend_maps: WriteMaps,
     pub judge_mend_maps: JudgeMendMaps,
     pub carry_marks: CarryMarks,
+    pub month_sheet: MonthSheet,
+    pub add_sheets: AddSheets,
     pub read_dtd: Option<ReadDtd>,
 }
 
@@ -49,6 +57,8 @@ pub const MAKES: [Make; 3] = [
         mend_maps: proved::mend_maps,
         judge_mend_maps: proved::judge_mend_maps,
         carry_marks: proved::carry_marks,
+        month_sheet: proved::month_sheet,
+        add_sheets: proved::add_sheets,
         read_dtd: Some(proved::read_dtd),
     },
     Make {
@@ -64,6 +74,8 @@ pub const MAKES: [Make; 3] = [
         mend_maps: fast::mend_maps,
         judge_mend_maps: fast::judge_mend_maps,
         carry_marks: fast::carry_marks,
+        month_sheet: fast::month_sheet,
+        add_sheets: fast::add_sheets,
         read_dtd: None,
     },
     Make {
@@ -79,6 +91,8 @@ pub const MAKES: [Make; 3] = [
         mend_maps: plain::mend_maps,
         judge_mend_maps: plain::judge_mend_maps,
         carry_marks: plain::carry_marks,
+        month_sheet: plain::month_sheet,
+        add_sheets: plain::add_sheets,
         read_dtd: Some(plain::read_dtd),
     },
 ];

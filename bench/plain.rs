@@ -1,12 +1,14 @@
 // The calls of the second program in the form of `calls`.
 
-use crate::calls::{Case, Outcome};
+use crate::calls::{Case, Outcome, Sheet};
 use second::answers::{answer, Answer, Breach};
 use second::carry_case::CarryCase;
 use second::dtd_case::DtdCase;
 use second::maps_case::MapsCase;
 use second::roles_case::RolesCase;
-use second::{carrying, cases, completing, conditions, dtd, maps, mending, roles, table};
+use second::sheet_case::SheetCase;
+use second::sum_case::SumCase;
+use second::{carrying, cases, completing, conditions, dtd, maps, mending, roles, sheet, table};
 
 fn outcome_of(outcome: second::answers::Outcome) -> Outcome {
     let Answer { number, place, count, breach } = answer(outcome);
@@ -84,6 +86,35 @@ pub fn carry_marks(
     outcome_of(carrying::carry_marks(old_words, old_marks, new_words, new_numbers, out, lost))
 }
 
+/// A sheet of the second program.
+pub fn sheet_of(sheet: sheet::Sheet) -> Sheet {
+    let sheet::Sheet { number, place, figures, leader_count, leaders } = sheet;
+    let [clean, insert_delete, chain, cycle, refused] = figures;
+    Sheet { number, place, clean, insert_delete, chain, cycle, refused, leader_count, leaders }
+}
+
+/// A sheet for the second program.
+fn lent(sheet: Sheet) -> sheet::Sheet {
+    let Sheet { number, place, clean, insert_delete, chain, cycle, refused, leader_count, leaders } = sheet;
+    let figures = [clean, insert_delete, chain, cycle, refused];
+    sheet::Sheet { number, place, figures, leader_count, leaders }
+}
+
+pub fn month_sheet(words: &[u16], roles: u32, marks: &[u8], counts: &mut [u32]) -> Sheet {
+    sheet_of(sheet::month_sheet(words, roles, marks, counts).unwrap_or_else(|refused| refused))
+}
+
+pub fn add_sheets(
+    words: &[u16],
+    sheet: Sheet,
+    counts: &mut [u32],
+    more: Sheet,
+    more_counts: &[u32],
+) -> Sheet {
+    let told = sheet::add_sheets(words, lent(sheet), counts, lent(more), more_counts);
+    sheet_of(told.unwrap_or_else(|refused| refused))
+}
+
 pub fn read_dtd(text: &[u8], out: &mut [u16]) -> Outcome {
     outcome_of(dtd::read_dtd(text, out))
 }
@@ -96,6 +127,8 @@ pub struct Cases {
     pub shows: Vec<RolesCase>,
     pub maps: Vec<MapsCase>,
     pub moves: Vec<CarryCase>,
+    pub months: Vec<SheetCase>,
+    pub sums: Vec<SumCase>,
 }
 
 pub fn cases_of(stream: &[u8]) -> Cases {
@@ -107,6 +140,8 @@ pub fn cases_of(stream: &[u8]) -> Cases {
             cases::Case::Roles(case) => all.shows.push(case),
             cases::Case::Maps(case) => all.maps.push(case),
             cases::Case::Carry(case) => all.moves.push(case),
+            cases::Case::Sheet(case) => all.months.push(case),
+            cases::Case::Sum(case) => all.sums.push(case),
         }
     }
     all

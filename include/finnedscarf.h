@@ -1,16 +1,16 @@
 /*
  * Finnedscarf: checks a schema table, reads one from DTD text, judges a policy of edits on it, completes the policy, or those of all roles of
- * a show at once, mends it, judges a mend that somebody proposes, and carries its marks over when the schema is revised. Judging, completing and
- * mending one policy and judging a mend are there as well for one that is kept as two bit maps. The twelve calls are proved to answer as said here
- * for every input; nothing checks this header against them but tests/store.
+ * a show at once, mends it, judges a mend that somebody proposes, carries its marks over when the schema is revised, counts the roles of a month on
+ * a sheet, and adds two sheets. Judging, completing and mending one policy and judging a mend are there as well for one that is kept as two bit
+ * maps. The fourteen calls are proved to answer as said here for every input; nothing checks this header against them but tests/store.
  *
  * Build the library with `rt staticlib store` and link target/staticlib/libstore.a (x86-64 Linux). For C99 or C++11, or later.
  *
  * What is lent
  *   Each run is a pointer to its first item and the number of its items. With length 0 the pointer may be any, also NULL; else it is never
- *   NULL. What a call may write, which is `numbers`, `out`, `lost`, `out_allowed` and `out_forbidden`, overlaps no other run of the call; all other
- *   runs are only read. Nothing else may write to a lent run during the call. A call keeps nothing: no pointer, no state, no memory that must be
- *   freed.
+ *   NULL. What a call may write, which is `numbers`, `out`, `lost`, `out_allowed`, `out_forbidden` and `counts`, overlaps no other run of the call;
+ *   all other runs are only read. Nothing else may write to a lent run during the call. A call keeps nothing: no pointer, no state, no memory that
+ *   must be freed. The number of a month's roles, `roles`, is no run, and sheets are handed over whole.
  *
  * The table
  *   A run of 16-bit words: 8 words of header, three words for each of the E types, then the C entries of the child list.
@@ -70,8 +70,9 @@ enum {
 /*
  * The number of an answer. Checks are made in the order of these lines, 20 to 22 before 1, and 19 between 7 and 8; but of 20 and 21 the earlier
  * byte decides, then the lower number. The place is the lowest at which the check fails, 0 where none is named. Where all roles are completed at
- * once, 11 and 16 are numbers of a role and not of the call: they come after 12. Over maps 23 and 24 stand in place of 11. Where marks are carried
- * over, 1 to 9 and 19 are the old table's; those of the new table are raised by 100, to 101 to 109 and 119, and come after 11.
+ * once, 11 and 16 are numbers of a role and not of the call: they come after 12. Where a month's roles are counted, neither is a number. Over maps
+ * 23 and 24 stand in place of 11. Where marks are carried over, 1 to 9 and 19 are the old table's; those of the new table are raised by 100, to 101
+ * to 109 and 119, and come after 11.
  */
 enum {
     FINNEDSCARF_DONE = 0,             /* done; place: V for a table that is checked or read, else 0 */
@@ -88,7 +89,7 @@ enum {
     FINNEDSCARF_ON_CYCLE = 19,        /* a type on a cycle; place: type */
     FINNEDSCARF_ORPHAN = 8,           /* a type that is not reached from the root; place: type */
     FINNEDSCARF_TOTAL = 9,            /* V is over 4096 or word 7 is not V */
-    FINNEDSCARF_MARKS_LENGTH = 10,    /* marks not V long; of all roles: not V for each; a map not V / 8 bytes long, rounded up */
+    FINNEDSCARF_MARKS_LENGTH = 10,    /* marks not V long; of all roles, or of a month's: not V for each; a map not V / 8 bytes long, rounded up */
     FINNEDSCARF_MARK = 11,            /* a mark above 2; place: privilege */
     FINNEDSCARF_BOTH = 23,            /* a privilege whose bit is set in both maps; place: privilege */
     FINNEDSCARF_SPARE = 24,           /* a spare bit set in either map */
@@ -97,7 +98,11 @@ enum {
     FINNEDSCARF_NEW_NUMBER = 18,      /* a new number that is neither 65535 nor below the new E, or that is not 65535 and an earlier type has too;
                                          place: old type */
     FINNEDSCARF_SHORT = 12,           /* result shorter than V, of all roles than V for each, or than the table that is read; a result map shorter
-                                         than V / 8 bytes, rounded up; of marks carried over: `out` than the new V, or `lost` than the old V */
+                                         than V / 8 bytes, rounded up; of marks carried over: `out` than the new V, or `lost` than the old V; of
+                                         sheets: a run of counts than 3 * V */
+    FINNEDSCARF_SHEET_REFUSED = 29,   /* a sheet that is to be added was itself refused: its number is not 0; place: 0 if `sheet` was, else 1 */
+    FINNEDSCARF_SUM = 30,             /* a sum that 32 bits do not hold; place: the lowest privilege with such a sum among its three counts, or V if
+                                         only numbers of roles have one */
     FINNEDSCARF_PROPOSED_LENGTH = 13, /* proposed marks not V long; a proposed map not V / 8 bytes long, rounded up */
     FINNEDSCARF_PROPOSED_MARK = 14,   /* a proposed mark above 2, or a privilege whose bit is set in both proposed maps; place: privilege; else
                                          a spare bit set in either of these; place: 0 */
@@ -132,6 +137,22 @@ typedef struct {
                             chain[0], which is i, to chain[chain_length - 1], which is j, each to be replaced by the next; among equally
                             few the lowest position at the first difference; 0 in unused places */
 } finnedscarf_outcome;
+
+/*
+ * The sheet of a month's roles, but for the counts of the privileges, which are in a run of their own. The five figures are numbers of roles. In a
+ * refusal all but the number and the place is 0.
+ */
+typedef struct {
+    size_t number;          /* FINNEDSCARF_DONE, or why the call was refused */
+    size_t place;           /* as said at the number */
+    uint32_t clean;         /* break no condition */
+    uint32_t insert_delete; /* break condition 1 somewhere: at any type, be it the first breach or not; so a role can be in all three of these */
+    uint32_t chain;         /* break condition 2 somewhere */
+    uint32_t cycle;         /* break condition 3 somewhere */
+    uint32_t refused;       /* have a mark above 2; such a role is counted nowhere else */
+    uint32_t leader_count;  /* how many leaders there are: three, or V if that is less */
+    size_t leaders[3];      /* the privileges that are allowed in most roles: most first, the lower number first among equals; 0 in unused places */
+} finnedscarf_sheet;
 
 /* Checks a table: 0 with V as place, or 1 to 9 or 19. */
 finnedscarf_outcome finnedscarf_check_table(const uint16_t *words, size_t words_length);
@@ -238,6 +259,29 @@ finnedscarf_outcome finnedscarf_carry_marks(const uint16_t *old_words, size_t ol
                                             size_t old_marks_length, const uint16_t *new_words, size_t new_words_length,
                                             const uint16_t *new_numbers, size_t new_numbers_length, uint8_t *out, size_t out_length,
                                             uint8_t *lost, size_t lost_length);
+
+/*
+ * Counts a month's roles over one table on a sheet: `roles` of them, whose marks stand one after another in `marks`, V for each. If it is done it
+ * answers 0 with the sheet, and counts[3 * p], counts[3 * p + 1] and counts[3 * p + 2] are the numbers of roles in which privilege p is allowed,
+ * forbidden and unset; their sum is the number of roles that are not refused. A role with a mark above 2 is counted as refused and nowhere else.
+ * What `counts` held is not added to; what is behind its first 3 * V numbers is kept. 12,288 are enough for every table. Or 1 to 9 or 19 for the
+ * table, then 10 if `marks` is not V bytes for each role, then 12 if `counts` is shorter than 3 * V; a refusal leaves `counts` as it was. There may
+ * be any number of roles that 32 bits hold, also none: then all figures and counts are 0, and the leaders are the first privileges. With V 0 each
+ * role is clean, and any number of them is counted at once.
+ */
+finnedscarf_sheet finnedscarf_month_sheet(const uint16_t *words, size_t words_length, uint32_t roles, const uint8_t *marks,
+                                          size_t marks_length, uint32_t *counts, size_t counts_length);
+
+/*
+ * Adds two sheets over one table, as they come from counting a month's roles in two parts, on one machine or on two: `sheet` with its `counts`, and
+ * `more` with its `more_counts`. The sum is the sheet of all these roles counted by one call. If it is done it answers 0 with the summed figures, the
+ * first 3 * V numbers of `counts` are raised by those of `more_counts`, what is behind them is kept, and the leaders are those of the summed counts.
+ * Of the two sheets only the numbers and the five figures are looked at. Or 1 to 9 or 19 for the table, then 12 if `counts` or `more_counts` is
+ * shorter than 3 * V, then 29 if a sheet was itself refused, then 30 if 32 bits do not hold a sum; a refusal leaves `counts` as it was.
+ */
+finnedscarf_sheet finnedscarf_add_sheets(const uint16_t *words, size_t words_length, finnedscarf_sheet sheet, uint32_t *counts,
+                                         size_t counts_length, finnedscarf_sheet more, const uint32_t *more_counts,
+                                         size_t more_counts_length);
 
 /*
  * The library itself never gets NULL, not even with length 0. So the names above reach the functions below, in a call and where an
@@ -359,6 +403,27 @@ static inline finnedscarf_outcome finnedscarf_carry_marks_lent(const uint16_t *o
                                    FINNEDSCARF_LENT(out, no_byte), FINNEDSCARF_LENT(lost, no_byte));
 }
 
+static inline finnedscarf_sheet finnedscarf_month_sheet_lent(const uint16_t *words, size_t words_length, uint32_t roles,
+                                                             const uint8_t *marks, size_t marks_length, uint32_t *counts,
+                                                             size_t counts_length)
+{
+    uint16_t no_word = 0;
+    uint8_t no_byte = 0;
+    uint32_t no_number = 0;
+    return finnedscarf_month_sheet(FINNEDSCARF_LENT(words, no_word), roles, FINNEDSCARF_LENT(marks, no_byte),
+                                   FINNEDSCARF_LENT(counts, no_number));
+}
+
+static inline finnedscarf_sheet finnedscarf_add_sheets_lent(const uint16_t *words, size_t words_length, finnedscarf_sheet sheet,
+                                                            uint32_t *counts, size_t counts_length, finnedscarf_sheet more,
+                                                            const uint32_t *more_counts, size_t more_counts_length)
+{
+    uint16_t no_word = 0;
+    uint32_t no_number = 0;
+    return finnedscarf_add_sheets(FINNEDSCARF_LENT(words, no_word), sheet, FINNEDSCARF_LENT(counts, no_number), more,
+                                  FINNEDSCARF_LENT(more_counts, no_number));
+}
+
 #undef FINNEDSCARF_LENT
 
 #define finnedscarf_check_table finnedscarf_check_table_lent
@@ -373,6 +438,8 @@ static inline finnedscarf_outcome finnedscarf_carry_marks_lent(const uint16_t *o
 #define finnedscarf_mend_maps finnedscarf_mend_maps_lent
 #define finnedscarf_judge_mend_maps finnedscarf_judge_mend_maps_lent
 #define finnedscarf_carry_marks finnedscarf_carry_marks_lent
+#define finnedscarf_month_sheet finnedscarf_month_sheet_lent
+#define finnedscarf_add_sheets finnedscarf_add_sheets_lent
 
 #ifdef __cplusplus
 }

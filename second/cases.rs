@@ -8,7 +8,9 @@ use crate::format::Format;
 use crate::maps_case::{self, MapsCase};
 use crate::policy_case::{self, PolicyCase};
 use crate::roles_case::{self, RolesCase};
+use crate::sheet_case::{self, SheetCase};
 use crate::stream::take;
+use crate::sum_case::{self, SumCase};
 
 pub enum Case {
     Policy(PolicyCase),
@@ -16,6 +18,8 @@ pub enum Case {
     Roles(RolesCase),
     Maps(MapsCase),
     Carry(CarryCase),
+    Sheet(SheetCase),
+    Sum(SumCase),
 }
 
 impl Case {
@@ -26,6 +30,8 @@ impl Case {
             roles_case::KIND => Case::Roles(RolesCase::read(stream)),
             maps_case::KIND => Case::Maps(MapsCase::read(stream)),
             carry_case::KIND => Case::Carry(CarryCase::read(stream)),
+            sheet_case::KIND => Case::Sheet(SheetCase::read(stream)),
+            sum_case::KIND => Case::Sum(SumCase::read(stream)),
             kind => fail(&format!("there is no kind {}", kind)),
         }
     }
@@ -52,6 +58,14 @@ impl Case {
                 stream.push(carry_case::KIND);
                 case.write(stream);
             }
+            Case::Sheet(case) => {
+                stream.push(sheet_case::KIND);
+                case.write(stream);
+            }
+            Case::Sum(case) => {
+                stream.push(sum_case::KIND);
+                case.write(stream);
+            }
         }
     }
 
@@ -63,6 +77,8 @@ impl Case {
             Case::Roles(case) => case.has(format),
             Case::Maps(case) => case.has(format),
             Case::Carry(case) => case.has(format),
+            Case::Sheet(case) => case.has(format),
+            Case::Sum(case) => case.has(format),
         }
     }
 
@@ -70,7 +86,7 @@ impl Case {
     pub fn file(&self) -> Option<Vec<u8>> {
         match self {
             Case::Policy(case) => Some(case.file()),
-            Case::Dtd(_) | Case::Roles(_) | Case::Maps(_) | Case::Carry(_) => None,
+            _ => None,
         }
     }
 
@@ -82,6 +98,8 @@ impl Case {
             Case::Roles(case) => tell(&roles_case::CALLS, case),
             Case::Maps(case) => tell(&maps_case::CALLS, case),
             Case::Carry(case) => tell(&carry_case::CALLS, case),
+            Case::Sheet(case) => tell(&sheet_case::CALLS, case),
+            Case::Sum(case) => tell(&sum_case::CALLS, case),
         }
     }
 }

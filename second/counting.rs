@@ -1,4 +1,4 @@
-// How often each call gave each number and each condition, and how often each situation of requests 1 and 5 to 9 came.
+// How often each call gave each number and each condition, and how often each situation of requests 1, 5 to 9 and 12 came.
 
 use crate::answers::Answer;
 use crate::calls::{Call, Told, NEW_TABLE, POLICY, TABLE};
@@ -9,12 +9,16 @@ use crate::format::Format;
 use crate::maps_case::{self, MapsCase};
 use crate::policy_case::{self, PolicyCase};
 use crate::roles_case::{self, RolesCase};
-use crate::situations::{carrying, maps, Situations, OF_CHAINS, OF_COUNTS, OF_FORMAT_TWO, OF_ROLES};
+use crate::sheet_case::{self, SheetCase};
+use crate::situations::{
+    carrying, maps, sheets, sums, Situations, OF_CHAINS, OF_COUNTS, OF_FORMAT_TWO, OF_ROLES,
+};
+use crate::sum_case::{self, SumCase};
 use std::collections::BTreeMap;
 
 /// The numbers in the order of the checks.
 const NUMBERS: &[&[usize]] =
-    &[&[20, 21, 22], TABLE, POLICY, &[23, 24], NEW_TABLE, &[17, 18], &[12, 13, 14, 15, 16]];
+    &[&[20, 21, 22], TABLE, POLICY, &[23, 24], NEW_TABLE, &[17, 18], &[12, 13, 14, 15, 16, 29, 30]];
 
 const CONDITIONS: [usize; 3] = [1, 2, 3];
 
@@ -111,6 +115,8 @@ impl Counts {
         rows.push(Row::new(A_ROLE, &[roles_case::OF_ROLES], false));
         rows.extend(maps_case::CALLS.iter().map(Row::of));
         rows.extend(carry_case::CALLS.iter().map(Row::of));
+        rows.extend(sheet_case::CALLS.iter().map(Row::of));
+        rows.extend(sum_case::CALLS.iter().map(Row::of));
         Counts { rows, total: 0 }
     }
 
@@ -184,6 +190,10 @@ pub struct Overview {
     large_maps: Found<MapsCase>,
     carrying: Found<CarryCase>,
     large_carrying: Found<CarryCase>,
+    sheets: Found<SheetCase>,
+    large_sheets: Found<SheetCase>,
+    sums: Found<SumCase>,
+    large_sums: Found<SumCase>,
 }
 
 impl Overview {
@@ -193,6 +203,8 @@ impl Overview {
         let roles = Found::new(OF_ROLES);
         let [maps, large_maps] = [maps::USUAL, maps::LARGE].map(Found::new);
         let [carrying, large_carrying] = [carrying::USUAL, carrying::LARGE].map(Found::new);
+        let [sheets, large_sheets] = [sheets::USUAL, sheets::LARGE].map(Found::new);
+        let [sums, large_sums] = [sums::USUAL, sums::LARGE].map(Found::new);
         let mut overview = Overview {
             all,
             of_two,
@@ -204,6 +216,10 @@ impl Overview {
             large_maps,
             carrying,
             large_carrying,
+            sheets,
+            large_sheets,
+            sums,
+            large_sums,
         };
         cases.for_each(|case| overview.add(&case));
         overview
@@ -222,6 +238,8 @@ impl Overview {
             Case::Roles(roles) => self.roles.add(roles),
             Case::Maps(maps) => self.add_maps(maps),
             Case::Carry(carry) => self.add_carry(carry),
+            Case::Sheet(sheet) => self.add_sheet(sheet),
+            Case::Sum(sum) => self.add_sum(sum),
         }
     }
 
@@ -239,6 +257,16 @@ impl Overview {
     fn add_carry(&mut self, carry: &CarryCase) {
         self.carrying.add(carry);
         self.large_carrying.add(carry);
+    }
+
+    fn add_sheet(&mut self, sheet: &SheetCase) {
+        self.sheets.add(sheet);
+        self.large_sheets.add(sheet);
+    }
+
+    fn add_sum(&mut self, sum: &SumCase) {
+        self.sums.add(sum);
+        self.large_sums.add(sum);
     }
 
     /// The fewest of the numbers and conditions that the calls made can give.
@@ -286,13 +314,25 @@ impl Overview {
         self.large_carrying.fewest()
     }
 
+    /// The fewest of the situations of request 12: of sheets and of sums.
+    pub fn fewest_of_sheets(&self) -> usize {
+        self.sheets.fewest().min(self.sums.fewest())
+    }
+
+    /// The fewest of those with tables as large as there may be, or with more roles than a byte counts.
+    pub fn fewest_of_large_sheets(&self) -> usize {
+        self.large_sheets.fewest().min(self.large_sums.fewest())
+    }
+
     fn text(&self) -> String {
         let tables = format!("{}\nof format 2\n{}", self.all.text(), self.of_two.text());
-        let of_policies = [self.format_two.text(), self.counts.text(), self.chains.text()];
-        let of_maps = [self.maps.text(), self.large_maps.text()];
-        let of_carrying = [self.carrying.text(), self.large_carrying.text()];
-        let of_others = [self.roles.text(), of_maps.join("\n"), of_carrying.join("\n")];
-        format!("{}\n{}\n{}", tables, of_policies.join("\n"), of_others.join("\n"))
+        let of_policies = [&self.format_two, &self.counts, &self.chains].map(Found::text);
+        let of_maps = [&self.maps, &self.large_maps].map(Found::text);
+        let of_carrying = [&self.carrying, &self.large_carrying].map(Found::text);
+        let of_sheets = [&self.sheets, &self.large_sheets].map(Found::text);
+        let of_sums = [&self.sums, &self.large_sums].map(Found::text);
+        let all = [&of_policies[..], &[self.roles.text()], &of_maps, &of_carrying, &of_sheets, &of_sums];
+        format!("{}\n{}", tables, all.concat().join("\n"))
     }
 }
 

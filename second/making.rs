@@ -14,6 +14,8 @@ pub mod roles;
 pub mod schemas;
 pub mod second_format;
 mod shapes;
+pub mod sheets;
+pub mod sums;
 
 use crate::cases::Case;
 use crate::format::Format;
@@ -83,14 +85,16 @@ fn policies(seed: u64, count: usize) -> impl Iterator<Item = PolicyCase> {
 }
 
 /// So many policies of format 1, then so many DTD texts, then so many policies of format 2 or of another word 0, then so many calls on roles,
-/// then so many on bit maps, and then so many that carry marks to a new table.
+/// then so many on bit maps, then so many that carry marks to a new table, then so many sheets of roles, and then so many sums of sheets.
 pub fn cases(
     seed: u64,
-    [count, dtds, second_format, roles, maps, carry]: [usize; 6],
+    [count, dtds, second_format, roles, maps, carry, sheets, sums]: [usize; 8],
 ) -> impl Iterator<Item = Case> {
     let of_one = policies(seed, count).map(Case::Policy).chain(dtds::cases(seed, dtds).map(Case::Dtd));
     let of_two = second_format::cases(seed, second_format).map(Case::Policy);
     let (roles, maps) = (roles::cases(seed, roles), maps::cases(seed, maps));
     let carry = carrying::cases(seed, carry).map(Case::Carry);
-    of_one.chain(of_two).chain(roles.map(Case::Roles)).chain(maps.map(Case::Maps)).chain(carry)
+    let (sheets, sums) = (sheets::cases(seed, sheets), sums::cases(seed, sums));
+    let of_policies = of_one.chain(of_two).chain(roles.map(Case::Roles)).chain(maps.map(Case::Maps));
+    of_policies.chain(carry).chain(sheets.map(Case::Sheet)).chain(sums.map(Case::Sum))
 }

@@ -24,8 +24,11 @@ pub mod policy_case;
 pub mod roles;
 pub mod roles_case;
 mod self_check;
+pub mod sheet;
+pub mod sheet_case;
 mod situations;
 mod stream;
+pub mod sum_case;
 pub mod table;
 
 use answers::{answer, Answer};
@@ -42,9 +45,10 @@ use self_check::self_check;
 use std::io::{Read, Write};
 use table::{HEADER, MOST_ENTRIES, MOST_TYPES, RECORD};
 
-const USAGE: &str = "modes: judge | cases SEED COUNT DTDS SECOND_FORMAT ROLES MAPS CARRY | answers | count \
-    | files FOLDER | random SEED COUNT SECOND_FORMAT FILE... | reports | count files | dtd | count dtds SEED COUNT \
-    | documents SEED COUNT FOLDER | texts SEED COUNT FOLDER | self";
+const USAGE: &str =
+    "modes: judge | cases SEED COUNT DTDS SECOND_FORMAT ROLES MAPS CARRY SHEETS SUMS | answers | count \
+    | files FOLDER | random SEED COUNT SECOND_FORMAT FILE... | reports | count files | dtd \
+    | count dtds SEED COUNT | documents SEED COUNT FOLDER | texts SEED COUNT FOLDER | self";
 
 fn fail(what: &str) -> ! {
     eprintln!("{}", what);

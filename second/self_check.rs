@@ -12,6 +12,7 @@ mod policies;
 mod roles;
 mod samples;
 mod second_format;
+mod sheets;
 mod tables;
 mod tickets;
 
@@ -31,6 +32,7 @@ use policies::{self_policy, self_renumbered, small_policy, unset};
 use roles::self_roles;
 use samples::self_samples;
 use second_format::self_second_format;
+use sheets::self_sheets;
 use tables::{self_descent, self_hierarchies, self_named_tables, self_numbering, small_schema};
 
 /// How often at least each answer is to come, by each rule and in each way.
@@ -107,6 +109,7 @@ pub fn self_check(seed: u64, count: usize) -> String {
         self_roles(seed, count),
         self_maps(seed, count),
         self_carrying(seed, count),
+        self_sheets(seed, count),
         self_dtds(seed, count),
     ]
     .concat()

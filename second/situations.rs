@@ -1,4 +1,4 @@
-// What requests 1 and 5 to 9 bring besides numbers and conditions: the situations that a case can be in, by name.
+// What requests 1, 5 to 9 and 12 bring besides numbers and conditions: the situations that a case can be in, by name.
 
 mod bits;
 mod breaches;
@@ -6,13 +6,18 @@ pub mod carrying;
 mod chains;
 mod completions;
 mod counts;
+mod leading;
 pub mod maps;
 mod mends;
+mod month;
 mod moves;
 mod policy;
 mod proposals;
 pub mod roles;
+pub mod sheets;
 mod show;
+pub mod sum;
+pub mod sums;
 mod tables;
 
 use crate::policy_case::PolicyCase;

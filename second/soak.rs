@@ -1,5 +1,6 @@
 // Holds the exported library to the second program on fresh cases: each call, all of its answer, and every lent run afterwards.
-// second/soak builds it and runs it with SEED, COUNT, DTDS, SECOND_FORMAT, ROLES, MAPS, CARRY and the folder where a case that differs is kept.
+// second/soak builds it and runs it with SEED, COUNT, DTDS, SECOND_FORMAT, ROLES, MAPS, CARRY, SHEETS, SUMS and the folder where a case that
+// differs is kept.
 
 #[path = "../bindings/rust/src/border.rs"]
 mod border;
@@ -15,6 +16,9 @@ use second::making;
 use second::maps_case::{self, MapsCase};
 use second::policy_case::{self, PolicyCase};
 use second::roles_case::{self, RolesCase};
+use second::sheet::{Sheet, SheetOutcome};
+use second::sheet_case::{self, SheetCase};
+use second::sum_case::{self, SumCase};
 use std::hint::black_box;
 
 fn outcome_of(told: border::Outcome) -> Outcome {
@@ -27,6 +31,24 @@ fn outcome_of(told: border::Outcome) -> Outcome {
     } else {
         Err(answer)
     }
+}
+
+fn sheet_outcome_of(told: border::Sheet) -> SheetOutcome {
+    let border::Sheet { number, place, clean, insert_delete, chain, cycle, refused, leader_count, leaders } = told;
+    let figures = [clean, insert_delete, chain, cycle, refused];
+    let sheet = Sheet { number, place, figures, leader_count, leaders };
+    if number == 0 {
+        Ok(sheet)
+    } else {
+        Err(sheet)
+    }
+}
+
+/// A sheet as it is given to the library.
+fn given(sheet: Sheet) -> border::Sheet {
+    let Sheet { number, place, figures, leader_count, leaders } = sheet;
+    let [clean, insert_delete, chain, cycle, refused] = figures;
+    border::Sheet { number, place, clean, insert_delete, chain, cycle, refused, leader_count, leaders }
 }
 
 /// The library's calls on cases of kind 0, in the order of the second program's.
@@ -74,6 +96,20 @@ const CARRY: [fn(&CarryCase) -> Told; carry_case::CALLS.len()] = [|case| {
     })
 }];
 
+/// The same on cases of kind 5.
+const SHEETS: [fn(&SheetCase) -> Told; sheet_case::CALLS.len()] = [|case| {
+    case.writing(|words, roles, marks, counts| {
+        sheet_outcome_of(border::month_sheet(words, roles, marks, counts))
+    })
+}];
+
+/// The same on cases of kind 6.
+const SUMS: [fn(&SumCase) -> Told; sum_case::CALLS.len()] = [|case| {
+    case.writing(|words, sheet, counts, more, more_counts| {
+        sheet_outcome_of(border::add_sheets(words, given(sheet), counts, given(more), more_counts))
+    })
+}];
+
 /// Makes each call on a case by both and counts the answers, up to the first difference.
 fn compare<C: Clone + PartialEq>(
     calls: &[Call<C>],
@@ -102,6 +138,8 @@ fn compare_case(case: &Case, counts: &mut Counts) -> Result<(), String> {
         Case::Roles(case) => compare(&roles_case::CALLS, &ROLES, case, counts),
         Case::Maps(case) => compare(&maps_case::CALLS, &MAPS, case, counts),
         Case::Carry(case) => compare(&carry_case::CALLS, &CARRY, case, counts),
+        Case::Sheet(case) => compare(&sheet_case::CALLS, &SHEETS, case, counts),
+        Case::Sum(case) => compare(&sum_case::CALLS, &SUMS, case, counts),
     }
 }
 
@@ -111,7 +149,7 @@ fn fail(what: &str) -> ! {
 }
 
 fn number(text: &str) -> u64 {
-    text.parse().unwrap_or_else(|_| fail("SEED, COUNT, DTDS, SECOND_FORMAT, ROLES, MAPS and CARRY are numbers"))
+    text.parse().unwrap_or_else(|_| fail("all but the folder are numbers"))
 }
 
 /// Keeps a case as a stream, and says where.
@@ -122,7 +160,7 @@ fn keep(case: Case, path: &str) -> String {
     }
 }
 
-fn soak(seed: u64, sizes: [usize; 6], folder: &str) {
+fn soak(seed: u64, sizes: [usize; 8], folder: &str) {
     let mut counts = Counts::new();
     for (k, case) in making::cases(seed, sizes).enumerate() {
         if let Err(difference) = compare_case(&case, &mut counts) {
@@ -139,10 +177,10 @@ fn main() {
     let arguments: Vec<String> = std::env::args().skip(1).collect();
     let arguments: Vec<&str> = arguments.iter().map(String::as_str).collect();
     match arguments[..] {
-        [seed, count, dtds, second_format, roles, maps, carry, folder] => {
-            let sizes = [count, dtds, second_format, roles, maps, carry].map(|text| number(text) as usize);
-            soak(number(seed), sizes, folder)
+        [seed, count, dtds, second_format, roles, maps, carry, sheets, sums, folder] => {
+            let sizes = [count, dtds, second_format, roles, maps, carry, sheets, sums];
+            soak(number(seed), sizes.map(|text| number(text) as usize), folder)
         }
-        _ => fail("soak SEED COUNT DTDS SECOND_FORMAT ROLES MAPS CARRY FOLDER"),
+        _ => fail("soak SEED COUNT DTDS SECOND_FORMAT ROLES MAPS CARRY SHEETS SUMS FOLDER"),
     }
 }

@@ -2,6 +2,7 @@
  * Makes the calls on a stream of cases and prints a line for each (second/README.md has the form of both). Numbers, conditions and marks
  * are printed by the header's names for them, so that each name is held to its value.
  */
+#include <inttypes.h>
 #include <stdio.h>
 #include <stdlib.h>
 #include <string.h>
@@ -44,6 +45,8 @@ static const char *number_text(size_t number)
     case FINNEDSCARF_NUMBERS_LENGTH: return "17";
     case FINNEDSCARF_NEW_NUMBER: return "18";
     case FINNEDSCARF_SHORT: return "12";
+    case FINNEDSCARF_SHEET_REFUSED: return "29";
+    case FINNEDSCARF_SUM: return "30";
     case FINNEDSCARF_PROPOSED_LENGTH: return "13";
     case FINNEDSCARF_PROPOSED_MARK: return "14";
     case FINNEDSCARF_CHANGE: return "15";
@@ -88,11 +91,16 @@ static uint16_t next_word(void)
     return (uint16_t)(low + 256 * next_byte());
 }
 
+static uint32_t next_number(void)
+{
+    uint32_t low = next_word();
+    return low + 65536 * (uint32_t)next_word();
+}
+
 /* The length of a run; one that is longer than MOST is an error. */
 static size_t next_length(void)
 {
-    size_t low = next_word();
-    size_t length = low + 65536 * (size_t)next_word();
+    size_t length = next_number();
     if (length > MOST)
         exit(2);
     return length;
@@ -112,6 +120,31 @@ static size_t read_bytes(uint8_t *run)
     for (size_t k = 0; k < length; k++)
         run[k] = next_byte();
     return length;
+}
+
+static size_t read_numbers(uint32_t *run)
+{
+    size_t length = next_length();
+    for (size_t k = 0; k < length; k++)
+        run[k] = next_number();
+    return length;
+}
+
+/* A sheet is no run: it has no length. */
+static finnedscarf_sheet read_sheet(void)
+{
+    finnedscarf_sheet s;
+    s.number = next_number();
+    s.place = next_number();
+    s.clean = next_number();
+    s.insert_delete = next_number();
+    s.chain = next_number();
+    s.cycle = next_number();
+    s.refused = next_number();
+    s.leader_count = next_number();
+    for (size_t k = 0; k < 3; k++)
+        s.leaders[k] = next_number();
+    return s;
 }
 
 /* Two maps, as they are lent together. */
@@ -192,6 +225,19 @@ static void put_written_maps(size_t number, const char *call, finnedscarf_outcom
     put_outcome(number, call, o);
     put_bytes(out->allowed, out->allowed_length);
     put_bytes(out->forbidden, out->forbidden_length);
+    putchar('\n');
+}
+
+/* The line of a call that answers with a sheet. The counts are printed as bytes, the low one of each number first. */
+static void put_sheet(size_t number, const char *call, finnedscarf_sheet s, const uint32_t *counts, size_t length)
+{
+    printf("%zu %s %s %zu", number, call, number_text(s.number), s.place);
+    printf(" %" PRIu32 " %" PRIu32 " %" PRIu32 " %" PRIu32 " %" PRIu32, s.clean, s.insert_delete, s.chain, s.cycle, s.refused);
+    printf(" %" PRIu32 " %zu %zu %zu ", s.leader_count, s.leaders[0], s.leaders[1], s.leaders[2]);
+    for (size_t k = 0; k < length; k++) {
+        put_word((uint16_t)(counts[k] % 65536));
+        put_word((uint16_t)(counts[k] / 65536));
+    }
     putchar('\n');
 }
 
@@ -293,6 +339,36 @@ static void run_carry(size_t number)
     putchar('\n');
 }
 
+/* The call on a case of kind 5. */
+static void run_sheet(size_t number)
+{
+    static uint16_t words[MOST];
+    static uint8_t marks[MOST];
+    static uint32_t counts[MOST];
+    size_t w = read_words(words);
+    uint32_t roles = next_number();
+    size_t m = read_bytes(marks);
+    size_t n = read_numbers(counts);
+
+    finnedscarf_sheet told = finnedscarf_month_sheet(words, w, roles, marks, m, counts, n);
+    put_sheet(number, "sheet", told, counts, n);
+}
+
+/* The call on a case of kind 6. */
+static void run_add_sheets(size_t number)
+{
+    static uint16_t words[MOST];
+    static uint32_t counts[MOST], more_counts[MOST];
+    size_t w = read_words(words);
+    finnedscarf_sheet sheet = read_sheet();
+    size_t n = read_numbers(counts);
+    finnedscarf_sheet other = read_sheet();
+    size_t m = read_numbers(more_counts);
+
+    finnedscarf_sheet told = finnedscarf_add_sheets(words, w, sheet, counts, n, other, more_counts, m);
+    put_sheet(number, "add_sheets", told, counts, n);
+}
+
 int main(void)
 {
     for (size_t number = 0; more(); number++) {
@@ -302,6 +378,8 @@ int main(void)
         case 2: run_roles(number); break;
         case 3: run_maps(number); break;
         case 4: run_carry(number); break;
+        case 5: run_sheet(number); break;
+        case 6: run_add_sheets(number); break;
         default: exit(2);
         }
     }

@@ -1,8 +1,14 @@
 //! Makes the calls on a stream of cases through the safe wrapper and prints a line for each (second/README.md has the form of both).
-//! Conditions and marks are printed by the wrapper's names for them, so that each name is held to its value.
+//! Conditions and marks are printed by the wrapper's names for them, so that each name is held to its value. A refused sheet is none of the
+//! wrapper's, so that adding one is left to the border below it.
 
-use finnedscarf::{carry_marks, check_table, complete, complete_maps, complete_roles, judge_maps, judge_mend, judge_mend_maps, judge_policy};
-use finnedscarf::{mend, mend_maps, read_dtd, Breach, Condition, Maps, MapsMut, Refusal, RoleRefusal, Roles, ALLOWED, FORBIDDEN, UNSET};
+#[allow(dead_code)]
+#[path = "../bindings/rust/src/border.rs"]
+mod border;
+
+use finnedscarf::{add_sheets, carry_marks, check_table, complete, complete_maps, complete_roles, judge_maps, judge_mend, judge_mend_maps};
+use finnedscarf::{judge_policy, mend, mend_maps, month_sheet, read_dtd, Breach, Condition, Maps, MapsMut, Refusal, RoleRefusal, Roles, Sheet};
+use finnedscarf::{ALLOWED, FORBIDDEN, UNSET};
 use std::io::{self, BufWriter, Read, Write};
 
 struct Stream(Vec<u8>, usize);
@@ -21,16 +27,27 @@ impl Stream {
         u16::from_le_bytes([self.byte(), self.byte()])
     }
 
-    fn length(&mut self) -> u32 {
+    fn number(&mut self) -> u32 {
         u32::from_le_bytes([self.byte(), self.byte(), self.byte(), self.byte()])
     }
 
     fn words(&mut self) -> Vec<u16> {
-        (0..self.length()).map(|_| self.word()).collect()
+        (0..self.number()).map(|_| self.word()).collect()
     }
 
     fn bytes(&mut self) -> Vec<u8> {
-        (0..self.length()).map(|_| self.byte()).collect()
+        (0..self.number()).map(|_| self.byte()).collect()
+    }
+
+    fn numbers(&mut self) -> Vec<u32> {
+        (0..self.number()).map(|_| self.number()).collect()
+    }
+
+    fn sheet(&mut self) -> border::Sheet {
+        let [number, place] = [(); 2].map(|()| self.number() as usize);
+        let [clean, insert_delete, chain, cycle, refused, leader_count] = [(); 6].map(|()| self.number());
+        let leaders = [(); 3].map(|()| self.number() as usize);
+        border::Sheet { number, place, clean, insert_delete, chain, cycle, refused, leader_count, leaders }
     }
 
     fn maps(&mut self) -> TwoMaps {
@@ -196,6 +213,63 @@ fn carry_lines(stream: &mut Stream) -> Vec<String> {
     vec![format!("{} {} {}", line("carry", answer), run_text(&out), bytes_text(&lost))]
 }
 
+/// The sheet that a call tells, and the counts as bytes, the low one of each number first.
+fn sheet_text(call: &str, told: border::Sheet, counts: &[u32]) -> String {
+    let border::Sheet { number, place, clean, insert_delete, chain, cycle, refused, leader_count, leaders: [a, b, c] } = told;
+    let counts: String = counts.iter().flat_map(|count| count.to_le_bytes()).map(|byte| format!("{byte:02x}")).collect();
+    format!("{call} {number} {place} {clean} {insert_delete} {chain} {cycle} {refused} {leader_count} {a} {b} {c} {counts}")
+}
+
+/// What the wrapper tells, with all that it has no word for.
+fn told(answer: Result<Sheet, Refusal>) -> border::Sheet {
+    match answer {
+        Ok(sheet) => {
+            let mut leaders = [0; 3];
+            leaders[..sheet.leaders().len()].copy_from_slice(sheet.leaders());
+            let leader_count = sheet.leaders().len() as u32;
+            let Sheet { clean, insert_delete, chain, cycle, refused, .. } = sheet;
+            border::Sheet { number: 0, place: 0, clean, insert_delete, chain, cycle, refused, leader_count, leaders }
+        }
+        Err(Refusal { number, place, breach }) => {
+            assert_eq!(breach, None);
+            border::Sheet { number, place, ..border::Sheet::default() }
+        }
+    }
+}
+
+/// The call on a case of kind 5.
+fn sheet_lines(stream: &mut Stream) -> Vec<String> {
+    let words = stream.words();
+    let roles = stream.number();
+    let marks = stream.bytes();
+    let mut counts = stream.numbers();
+    let answer = month_sheet(&words, roles, &marks, &mut counts);
+    vec![sheet_text("sheet", told(answer), &counts)]
+}
+
+/// A sheet with the figures of another, as one that comes from elsewhere.
+fn with_figures(given: border::Sheet) -> Sheet {
+    let mut sheet = Sheet::default();
+    sheet.clean = given.clean;
+    sheet.insert_delete = given.insert_delete;
+    sheet.chain = given.chain;
+    sheet.cycle = given.cycle;
+    sheet.refused = given.refused;
+    sheet
+}
+
+/// The call on a case of kind 6; through the wrapper, if neither sheet was refused.
+fn add_sheets_lines(stream: &mut Stream) -> Vec<String> {
+    let words = stream.words();
+    let (sheet, mut counts) = (stream.sheet(), stream.numbers());
+    let (more, more_counts) = (stream.sheet(), stream.numbers());
+    let answer = match (sheet.number, more.number) {
+        (0, 0) => told(add_sheets(&words, &with_figures(sheet), &mut counts, &with_figures(more), &more_counts)),
+        _ => border::add_sheets(&words, sheet, &mut counts, more, &more_counts),
+    };
+    vec![sheet_text("add_sheets", answer, &counts)]
+}
+
 fn main() -> io::Result<()> {
     let mut stream = Stream(Vec::new(), 0);
     io::stdin().read_to_end(&mut stream.0)?;
@@ -208,6 +282,8 @@ fn main() -> io::Result<()> {
             2 => roles_lines(&mut stream),
             3 => maps_lines(&mut stream),
             4 => carry_lines(&mut stream),
+            5 => sheet_lines(&mut stream),
+            6 => add_sheets_lines(&mut stream),
             kind => panic!("there is no kind {kind}"),
         };
         for line in lines {

@@ -3,9 +3,10 @@
  * call is made by its name and by its address, and must answer as documents 01 and 02 have it. It is C and C++; as C++ it lends empty vectors
  * too.
  *
- * tests/store links it with --wrap for each BORDER below: what the header calls by that name is then `__wrap_name`, which sees to it that no
- * NULL comes so far, and `__real_name` is the library's own.
+ * tests/store links it with --wrap for each BORDER and SHEET_BORDER below: what the header calls by that name is then `__wrap_name`, which sees to
+ * it that no NULL comes so far, and `__real_name` is the library's own.
  */
+#include <inttypes.h>
 #include <stdio.h>
 #include <stdlib.h>
 #include <string.h>
@@ -27,13 +28,17 @@ static void pass_on(const char *name, int whole)
     passed_on++;
 }
 
-#define BORDER(name, parameters, arguments, whole) \
-    finnedscarf_outcome __real_##name parameters;  \
-    finnedscarf_outcome __wrap_##name parameters   \
-    {                                              \
-        pass_on(#name, whole);                     \
-        return __real_##name arguments;            \
+#define WRAP(answer, name, real, wrap, parameters, arguments, whole) \
+    answer real parameters;                                          \
+    answer wrap parameters                                           \
+    {                                                                \
+        pass_on(name, whole);                                        \
+        return real arguments;                                       \
     }
+#define BORDER(name, parameters, arguments, whole) \
+    WRAP(finnedscarf_outcome, #name, __real_##name, __wrap_##name, parameters, arguments, whole)
+#define SHEET_BORDER(name, parameters, arguments, whole) \
+    WRAP(finnedscarf_sheet, #name, __real_##name, __wrap_##name, parameters, arguments, whole)
 
 #ifdef __cplusplus
 extern "C" {
@@ -86,6 +91,14 @@ BORDER(finnedscarf_carry_marks,
        (old_words, old_words_length, old_marks, old_marks_length, new_words, new_words_length, new_numbers, new_numbers_length, out,
         out_length, lost, lost_length),
        old_words && old_marks && new_words && new_numbers && out && lost)
+SHEET_BORDER(finnedscarf_month_sheet,
+             (const uint16_t *words, size_t words_length, uint32_t roles, const uint8_t *marks, size_t marks_length, uint32_t *counts,
+              size_t counts_length),
+             (words, words_length, roles, marks, marks_length, counts, counts_length), words && marks && counts)
+SHEET_BORDER(finnedscarf_add_sheets,
+             (const uint16_t *words, size_t words_length, finnedscarf_sheet sheet, uint32_t *counts, size_t counts_length,
+              finnedscarf_sheet more, const uint32_t *more_counts, size_t more_counts_length),
+             (words, words_length, sheet, counts, counts_length, more, more_counts, more_counts_length), words && counts && more_counts)
 #ifdef __cplusplus
 }
 #endif
@@ -111,6 +124,10 @@ static finnedscarf_outcome (*const judge_mend_maps)(const uint16_t *, size_t, co
                                                     const uint8_t *, size_t, const uint8_t *, size_t) = &finnedscarf_judge_mend_maps;
 static finnedscarf_outcome (*const carry_marks)(const uint16_t *, size_t, const uint8_t *, size_t, const uint16_t *, size_t,
                                                 const uint16_t *, size_t, uint8_t *, size_t, uint8_t *, size_t) = finnedscarf_carry_marks;
+static finnedscarf_sheet (*const month_sheet)(const uint16_t *, size_t, uint32_t, const uint8_t *, size_t, uint32_t *, size_t) =
+    &finnedscarf_month_sheet;
+static finnedscarf_sheet (*const add_sheets)(const uint16_t *, size_t, finnedscarf_sheet, uint32_t *, size_t, finnedscarf_sheet,
+                                             const uint32_t *, size_t) = finnedscarf_add_sheets;
 
 /* Two tables of one type, which is empty and has no privilege, or a text and has one: V is the table's place here. The same as DTD text. */
 static const uint16_t tables[2][11] = {{1, 11, 1, 0, 8, 0, 11, 0, 0, 0, 0}, {1, 11, 1, 0, 8, 0, 11, 1, 1, 0, 0}};
@@ -437,8 +454,88 @@ static void try_carry(int address, size_t old_v, size_t new_v, int gone, int emp
     }
 }
 
-/* The table that is read, and the numbers of the roles, are empty runs of words that a call may write. */
-static size_t try_all(struct runs none, uint16_t *no_words)
+/* The runs of adding sheets that are empty, as a sum with that of the words. Where roles are counted the second is the marks. */
+enum { MORE_COUNTS = 2, COUNTS = 4 };
+
+/* Clean roles, which allow the privilege, if there is one. */
+static finnedscarf_sheet clean_sheet(uint32_t roles, size_t v)
+{
+    finnedscarf_sheet s = {0, 0, roles, 0, 0, 0, 0, (uint32_t)v, {0, 0, 0}};
+    return s;
+}
+
+static finnedscarf_sheet refused_sheet(size_t number)
+{
+    finnedscarf_sheet s = {number, 0, 0, 0, 0, 0, 0, 0, {0, 0, 0}};
+    return s;
+}
+
+/* The counts as they are lent; of one privilege, and one behind them. */
+static const uint32_t counts_lent[4] = {9, 9, 9, 9};
+
+/* Holds a call to its number and, if that is 0, to a sheet of so many clean roles and to the counts that it leaves if there is a privilege. */
+static void hold_sheet(const char *call, int address, size_t v, int empty, finnedscarf_sheet told, const uint32_t *counts, size_t number,
+                       uint32_t roles, const uint32_t *counted)
+{
+    finnedscarf_sheet right = number ? refused_sheet(number) : clean_sheet(roles, v);
+    if (number || !v)
+        counted = counts_lent;
+    if (memcmp(&told, &right, sizeof told) || memcmp(counts, counted, sizeof counts_lent)) {
+        printf("tests/null: %s by %s, V %zu, empty runs %d: number %zu, place %zu, clean %" PRIu32 ", counts %" PRIu32 " %" PRIu32 " %" PRIu32
+               " %" PRIu32 ", where %zu, 0, %" PRIu32 ", %" PRIu32 " %" PRIu32 " %" PRIu32 " %" PRIu32 " and no other role is right\n",
+               call, address ? "address" : "name", v, empty, told.number, told.place, told.clean, counts[0], counts[1], counts[2],
+               counts[3], number, right.clean, counted[0], counted[1], counted[2], counted[3]);
+        exit(1);
+    }
+}
+
+static size_t sheet_number(size_t v, uint32_t roles, int empty)
+{
+    if (empty & WORDS)
+        return FINNEDSCARF_FORMAT;
+    if (v && roles && empty & MARKS)
+        return FINNEDSCARF_MARKS_LENGTH;
+    return v && empty & COUNTS ? FINNEDSCARF_SHORT : FINNEDSCARF_DONE;
+}
+
+/* Counts a role, or none, in a call in which some runs are empty: those that are given, which are all empty. */
+static void try_sheet(int address, size_t v, uint32_t roles, int empty, struct runs none, uint32_t *no_numbers)
+{
+    const uint32_t counted[4] = {roles, 0, 0, 9};
+    uint32_t counts[4] = {9, 9, 9, 9};
+    uint32_t *lent = empty & COUNTS ? no_numbers : counts;
+    size_t n = empty & COUNTS ? 0 : 4;
+    struct runs r = {tables[v], allowed, NULL, 11, v * roles, 0};
+    r = emptied(r, none, empty & WORDS, empty & MARKS, 0);
+    finnedscarf_sheet told = address ? month_sheet(r.words, r.words_length, roles, r.marks, r.marks_length, lent, n)
+                                     : finnedscarf_month_sheet(r.words, r.words_length, roles, r.marks, r.marks_length, lent, n);
+    hold_sheet("month_sheet", address, v, empty, told, counts, sheet_number(v, roles, empty), roles, counted);
+}
+
+static size_t sum_number(size_t v, int empty)
+{
+    if (empty & WORDS)
+        return FINNEDSCARF_FORMAT;
+    return v && empty & (COUNTS | MORE_COUNTS) ? FINNEDSCARF_SHORT : FINNEDSCARF_DONE;
+}
+
+/* Adds a role to nine, in a call in which some runs are empty: those that are given, which are all empty. */
+static void try_add(int address, size_t v, int empty, struct runs none, uint32_t *no_numbers)
+{
+    const uint32_t more_counts[3] = {1, 0, 0}, counted[4] = {10, 9, 9, 9};
+    uint32_t counts[4] = {9, 9, 9, 9};
+    const uint16_t *words = empty & WORDS ? none.words : tables[v];
+    uint32_t *lent = empty & COUNTS ? no_numbers : counts;
+    const uint32_t *more_lent = empty & MORE_COUNTS ? no_numbers : more_counts;
+    size_t w = empty & WORDS ? 0 : 11, n = empty & COUNTS ? 0 : 4, m = empty & MORE_COUNTS ? 0 : 3;
+    finnedscarf_sheet nine = clean_sheet(9, v), one = clean_sheet(1, v);
+    finnedscarf_sheet told = address ? add_sheets(words, w, nine, lent, n, one, more_lent, m)
+                                     : finnedscarf_add_sheets(words, w, nine, lent, n, one, more_lent, m);
+    hold_sheet("add_sheets", address, v, empty, told, counts, sum_number(v, empty), 10, counted);
+}
+
+/* The table that is read, and the numbers of the roles, are empty runs of words that a call may write, and the counts one of numbers. */
+static size_t try_all(struct runs none, uint16_t *no_words, uint32_t *no_numbers)
 {
     size_t tried = 0;
     for (int address = 0; address < 2; address++)
@@ -465,18 +562,28 @@ static size_t try_all(struct runs none, uint16_t *no_words)
                 for (int gone = 0; gone < 2; gone++)
                     for (int empty = 0; empty < 64; empty++, tried++)
                         try_carry(address, old_v, new_v, gone, empty, none);
+    for (int address = 0; address < 2; address++)
+        for (size_t v = 0; v < 2; v++)
+            for (uint32_t roles = 0; roles < 2; roles++)
+                for (int empty = 0; empty < 8; empty++, tried++)
+                    try_sheet(address, v, roles, empty, none, no_numbers);
+    for (int address = 0; address < 2; address++)
+        for (size_t v = 0; v < 2; v++)
+            for (int empty = 0; empty < 8; empty++, tried++)
+                try_add(address, v, empty, none, no_numbers);
     return tried;
 }
 
 int main(void)
 {
     struct runs null = {NULL, NULL, NULL, 0, 0, 0};
-    size_t tried = try_all(null, NULL);
+    size_t tried = try_all(null, NULL, NULL);
 #ifdef __cplusplus
     std::vector<uint16_t> words, written;
     std::vector<uint8_t> marks, third;
     struct runs vectors = {words.data(), marks.data(), third.data(), 0, 0, 0};
-    tried += try_all(vectors, written.data());
+    std::vector<uint32_t> numbers;
+    tried += try_all(vectors, written.data(), numbers.data());
 #endif
     if (passed_on != tried) {
         printf("tests/null: %zu calls made, and %zu seen on their way to the library\n", tried, passed_on);

@@ -9,18 +9,17 @@ mod rules;
 
 use super::aims::Aims;
 use super::chance::Random;
-use super::damage::spoil_table;
+use super::damage::refused_words;
 use super::files::bare;
 use super::policies::mixed;
 use super::schemas::{numbered, Schema};
 use super::shapes::{usual_shape, wide_of};
-use crate::answers::answer;
 use crate::calls::TABLE;
 use crate::carry_case::{CarryCase, CALLS};
 use crate::carrying::RAISED;
 use crate::format::Format;
 use crate::situations::carrying::{is_in, is_of_faults, USUAL};
-use crate::table::{check, check_table, total, MOST_CHILDREN};
+use crate::table::{check_table, total, MOST_CHILDREN};
 use faults::spoil;
 use large::large_case;
 use revisions::revised;
@@ -120,14 +119,6 @@ fn number_of(case: &CarryCase) -> usize {
 fn any_base(r: &mut Random) -> Base {
     let formats = [r.pick(&FORMATS), r.pick(&FORMATS)];
     Base::of(r, formats)
-}
-
-/// A table of this schema's format that is refused with this number, if chance gives one.
-fn refused_words(r: &mut Random, schema: &Schema, number: usize) -> Option<Vec<u16>> {
-    let mut words = schema.words();
-    spoil_table(r, schema, &mut words);
-    let has_format = words.first() == Some(&schema.format.word());
-    Some(words).filter(|words| has_format && answer(check(words)).number == number)
 }
 
 /// An old table of this format that is refused with this number; in some cases with other faults too.

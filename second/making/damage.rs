@@ -4,12 +4,13 @@ use super::chance::Random;
 use super::cycles::{closed, unsound, uprooted};
 use super::schemas::{encode, entries_before, numbered, Schema};
 use super::shapes::{dress, dress_as, fill, full_ladder, grown_to, ladder, Lists};
+use crate::answers::answer;
 use crate::format::Format;
 use crate::judge::MOST_BYTES;
 use crate::policy_case::PolicyCase;
 use crate::table::{
-    Type, CHOICE, EMPTY, HEADER, MOST_CHILDREN, MOST_ENTRIES, MOST_PRIVILEGES, MOST_TYPES, RECORD, STAR,
-    TEXT, UNSET,
+    check, Type, CHOICE, EMPTY, HEADER, MOST_CHILDREN, MOST_ENTRIES, MOST_PRIVILEGES, MOST_TYPES, RECORD,
+    STAR, TEXT, UNSET,
 };
 
 fn other_word(r: &mut Random, word: u16) -> u16 {
@@ -195,6 +196,14 @@ pub fn spoil_table(r: &mut Random, schema: &Schema, words: &mut Vec<u16>) {
     if r.one_in(3) {
         *words = resized(r, schema.format, words.clone());
     }
+}
+
+/// A table of this schema's format that is refused with this number, if chance gives one.
+pub fn refused_words(r: &mut Random, schema: &Schema, number: usize) -> Option<Vec<u16>> {
+    let mut words = schema.words();
+    spoil_table(r, schema, &mut words);
+    let has_format = words.first() == Some(&schema.format.word());
+    Some(words).filter(|words| has_format && answer(check(words)).number == number)
 }
 
 fn spoil_marks(r: &mut Random, marks: &mut Vec<u8>) {

@@ -70,7 +70,7 @@ fn schema_for(r: &mut Random, format: Format, count: usize) -> Schema {
     }
 }
 
-fn clean(r: &mut Random, table: &Table) -> Vec<u8> {
+pub fn clean(r: &mut Random, table: &Table) -> Vec<u8> {
     let marks = policy(r, table);
     mended(table, &marks).1
 }
@@ -87,7 +87,7 @@ fn broken(r: &mut Random, table: &Table) -> Vec<u8> {
 }
 
 /// A mark above 2: the first, the last, or any.
-fn bend(r: &mut Random, marks: &mut [u8]) {
+pub fn bend(r: &mut Random, marks: &mut [u8]) {
     if let Some(last) = marks.len().checked_sub(1) {
         let any = r.below(last + 1);
         marks[r.pick(&[0, last, any])] = r.pick(&[3, 4, 255]);
@@ -101,7 +101,7 @@ fn bent(r: &mut Random, table: &Table) -> Vec<u8> {
 }
 
 /// Which of so many roles are to be refused: none, all, the first, the last, both, one of them, or some.
-fn to_be_refused(r: &mut Random, count: usize) -> Vec<bool> {
+pub fn to_be_refused(r: &mut Random, count: usize) -> Vec<bool> {
     let (way, one, of) = (r.below(8), r.below(count.max(1)), r.pick(&[2, 6]));
     let is_chosen = |k: usize| match way {
         0 => false,
@@ -149,7 +149,7 @@ fn case_of(r: &mut Random, schema: &Schema, roles: &[Vec<u8>]) -> RolesCase {
     RolesCase { words, marks, numbers, out }
 }
 
-fn table_of(schema: &Schema) -> Table {
+pub fn table_of(schema: &Schema) -> Table {
     check_table(&schema.words()).expect("a shape is accepted in every numbering")
 }
 

@@ -18,6 +18,21 @@ pub struct Outcome {
     pub chain: [u8; 17],
 }
 
+/// A sheet as two numbers, six of 32 bits, and the places of the leaders, in the order of crates/store.
+#[repr(C)]
+#[derive(Clone, Copy, Debug, Default, PartialEq)]
+pub struct Sheet {
+    pub number: usize,
+    pub place: usize,
+    pub clean: u32,
+    pub insert_delete: u32,
+    pub chain: u32,
+    pub cycle: u32,
+    pub refused: u32,
+    pub leader_count: u32,
+    pub leaders: [usize; 3],
+}
+
 // SAFETY of each call: a pointer, which in a slice is never NULL, and its length, from one slice that lives through the call; the borrows keep
 // what it may write apart from the rest.
 
@@ -145,6 +160,35 @@ pub fn carry_marks(
     }
 }
 
+pub fn month_sheet(words: &[u16], roles: u32, marks: &[u8], counts: &mut [u32]) -> Sheet {
+    unsafe {
+        finnedscarf_month_sheet(
+            words.as_ptr(),
+            words.len(),
+            roles,
+            marks.as_ptr(),
+            marks.len(),
+            counts.as_mut_ptr(),
+            counts.len(),
+        )
+    }
+}
+
+pub fn add_sheets(words: &[u16], sheet: Sheet, counts: &mut [u32], more: Sheet, more_counts: &[u32]) -> Sheet {
+    unsafe {
+        finnedscarf_add_sheets(
+            words.as_ptr(),
+            words.len(),
+            sheet,
+            counts.as_mut_ptr(),
+            counts.len(),
+            more,
+            more_counts.as_ptr(),
+            more_counts.len(),
+        )
+    }
+}
+
 #[link(name = "store", kind = "static")]
 extern "C" {
     fn finnedscarf_check_table(words: *const u16, words_length: usize) -> Outcome;
@@ -242,4 +286,23 @@ extern "C" {
         lost: *mut u8,
         lost_length: usize,
     ) -> Outcome;
+    fn finnedscarf_month_sheet(
+        words: *const u16,
+        words_length: usize,
+        roles: u32,
+        marks: *const u8,
+        marks_length: usize,
+        counts: *mut u32,
+        counts_length: usize,
+    ) -> Sheet;
+    fn finnedscarf_add_sheets(
+        words: *const u16,
+        words_length: usize,
+        sheet: Sheet,
+        counts: *mut u32,
+        counts_length: usize,
+        more: Sheet,
+        more_counts: *const u32,
+        more_counts_length: usize,
+    ) -> Sheet;
 }

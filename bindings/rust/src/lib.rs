@@ -1,7 +1,7 @@
 //! Safe calls of Finnedscarf, the proved policy checker: checks a schema table, reads one from DTD text, judges a policy of edits on it,
-//! completes the policy, or those of all roles of a show at once, mends it, judges a mend that somebody proposes, and carries its marks over
-//! when the schema is revised. Judging, completing and mending one policy and judging a mend are there as well for one that is kept as two bit
-//! maps ([`Maps`]).
+//! completes the policy, or those of all roles of a show at once, mends it, judges a mend that somebody proposes, carries its marks over when
+//! the schema is revised, counts the roles of a month on a [`Sheet`], and adds two of these. Judging, completing and mending one policy and
+//! judging a mend are there as well for one that is kept as two bit maps ([`Maps`]).
 //!
 //! `words` is the schema table and `marks` the policy, one byte for each of its V privileges: [`UNSET`], [`ALLOWED`] or [`FORBIDDEN`].
 //! `include/finnedscarf.h` has the layout of the table, the table of a DTD text and the numbers of the privileges. Word 0 of a table is its
@@ -37,10 +37,12 @@
 mod border;
 mod maps;
 mod roles;
+mod sheet;
 
 use border::Outcome;
 pub use maps::{Maps, MapsMut};
 pub use roles::{RoleRefusal, Roles};
+pub use sheet::{add_sheets, month_sheet, Sheet};
 use std::error::Error;
 use std::fmt;
 use std::ops::Deref;
@@ -161,7 +163,8 @@ impl fmt::Display for Breach {
 /// ```
 #[derive(Clone, Copy, Debug, PartialEq, Eq)]
 pub struct Refusal {
-    /// 1 to 24, or, of a new table, 101 to 109 or 119, as in `include/finnedscarf.h`.
+    /// 1 to 24 or 30, or, of a new table, 101 to 109 or 119, as in `include/finnedscarf.h`. With 29, a refused sheet that is to be added, a call
+    /// from C alone can be refused.
     pub number: usize,
     /// The lowest type, privilege or byte at which the check of this number fails; 0 where the check has no places.
     pub place: usize,
@@ -192,13 +195,13 @@ impl fmt::Display for Refusal {
             9 => write!(f, "over 4,096 privileges, or word 7 is not their number"),
             10 => write!(
                 f,
-                "not one mark for each privilege (with all roles at once: of each role; over maps: not one bit for each, rounded up to bytes)"
+                "not one mark for each privilege (with many roles at once: of each role; over maps: not one bit for each, rounded up to bytes)"
             ),
             11 => write!(f, "a mark above 2 at privilege {place}"),
             12 => write!(
                 f,
                 "result shorter than the number of privileges (with all roles at once: for each role; over maps: in bits; of marks carried \
-                 over: either result), or than the table that is read"
+                 over: either result; of sheets: than three counts for each privilege), or than the table that is read"
             ),
             13 => write!(f, "not one proposed mark for each privilege (over maps: not one bit for each, rounded up to bytes)"),
             14 => write!(
@@ -220,6 +223,8 @@ impl fmt::Display for Refusal {
             22 => write!(f, "the name at byte {place} was declared before, or is used and never declared"),
             23 => write!(f, "privilege {place} is set in both maps"),
             24 => write!(f, "a spare bit is set in a map, behind those of the privileges"),
+            29 => write!(f, "the {} sheet was itself refused", if *place == 0 { "first" } else { "other" }),
+            30 => write!(f, "32 bits do not hold the sum of a count of privilege {place} (one past the last: of a number of roles)"),
             _ => write!(f, "a breach"),
         }?;
         match breach {

@@ -1,6 +1,7 @@
 // Makes the calls on a stream of cases and prints a line for each: its answer, and each run that it may write. second/README.md has the form of both.
 ghost use Prim.Native.Nat.{_≤_};
 ghost use lib.ListN.{length};
+use adding::add_sheets;
 use carry::carry_marks;
 use completion::complete;
 use dtd::read_dtd;
@@ -11,9 +12,14 @@ use maps::mend_maps;
 use mending::mend;
 use proposing::judge_mend;
 use roles::complete_roles;
+use sheet::Figures;
+use sheet::Sheet;
+use sheet::month_sheet;
 use stream::next_kind;
 use stream::next_length;
+use stream::next_number;
 use stream::read_bytes;
+use stream::read_numbers;
 use stream::read_words;
 use table::Found;
 use table::check_table;
@@ -374,6 +380,142 @@ fn run_carry(case: usize) {
     );
 }
 
+// A 32-bit number, low byte first.
+fn put_number(number: u32) {
+    io::print_hex(1, (number % 256) as u64, 2);
+    io::print_hex(1, (number / 256 % 256) as u64, 2);
+    io::print_hex(1, (number / 65536 % 256) as u64, 2);
+    io::print_hex(1, (number / 16777216) as u64, 2);
+}
+
+// A run of 32-bit numbers, eight hexadecimal digits a number.
+fn put_numbers(run: &[u32]) {
+    io::write_all(1, b" ");
+    let mut k = 0;
+    while k < run.len() {
+        put_number(run[k]);
+        k += 1;
+    }
+}
+
+fn put_figures(figures: Figures) {
+    put(figures.clean as usize);
+    put(figures.insert_delete as usize);
+    put(figures.chain as usize);
+    put(figures.cycle as usize);
+    put(figures.refused as usize);
+}
+
+fn put_leaders(leaders: [usize; 3]) {
+    put(leaders[0]);
+    put(leaders[1]);
+    put(leaders[2]);
+}
+
+// The line of a call that answers a sheet and may write its counts.
+fn put_sheet(case: usize, call: &[u8], sheet: Sheet, counts: &[u32]) {
+    io::print_decimal(1, case as u64);
+    io::write_all(1, call);
+    put(sheet.number);
+    put(sheet.place);
+    let figures = sheet.figures;
+    put_figures(figures);
+    put(sheet.leader_count as usize);
+    let leaders = sheet.leaders;
+    put_leaders(leaders);
+    put_numbers(counts);
+    io::write_all(1, b"\n");
+}
+
+// The call on a case of kind 5.
+fn put_counted(case: usize, words: &[u16], roles: u32, marks: &[u8], counts: &mut [u32]) {
+    let sheet = month_sheet(words, roles, marks, counts);
+    put_sheet(case, b" sheet", sheet, counts);
+}
+
+// Kind 5: a table, the number of roles, their marks, the counts as lent.
+fn run_sheet(case: usize) {
+    let mut words = [0u16; 4096];
+    let w = read_words(next_length(), &mut words);
+    let roles = next_number();
+    let mut marks = [0u8; 16384];
+    let m = read_bytes(next_length(), &mut marks);
+    let mut counts = [0u32; 12544];
+    let k = read_numbers(next_length(), &mut counts);
+    put_counted(case, &words[0..w], roles, &marks[0..m], &mut counts[0..k]);
+}
+
+fn next_figures() -> Figures {
+    let clean = next_number();
+    let insert_delete = next_number();
+    let chain = next_number();
+    let cycle = next_number();
+    let refused = next_number();
+    Figures {
+        clean,
+        insert_delete,
+        chain,
+        cycle,
+        refused,
+    }
+}
+
+fn next_leaders() -> [usize; 3] {
+    let first = next_number() as usize;
+    let second = next_number() as usize;
+    let third = next_number() as usize;
+    [first, second, third]
+}
+
+// A sheet, which is no run: eleven 32-bit numbers.
+fn next_sheet() -> Sheet {
+    let number = next_number() as usize;
+    let place = next_number() as usize;
+    let figures = next_figures();
+    let leader_count = next_number();
+    let leaders = next_leaders();
+    Sheet {
+        number,
+        place,
+        figures,
+        leader_count,
+        leaders,
+    }
+}
+
+// The call on a case of kind 6.
+fn put_added(
+    case: usize,
+    words: &[u16],
+    sheet: Sheet,
+    counts: &mut [u32],
+    more: Sheet,
+    more_counts: &[u32],
+) {
+    let sum = add_sheets(words, sheet, counts, more, more_counts);
+    put_sheet(case, b" add_sheets", sum, counts);
+}
+
+// Kind 6: a table, a sheet and its counts as lent, another sheet and its counts.
+fn run_sum(case: usize) {
+    let mut words = [0u16; 4096];
+    let w = read_words(next_length(), &mut words);
+    let sheet = next_sheet();
+    let mut counts = [0u32; 12544];
+    let k = read_numbers(next_length(), &mut counts);
+    let more = next_sheet();
+    let mut more_counts = [0u32; 12544];
+    let l = read_numbers(next_length(), &mut more_counts);
+    put_added(
+        case,
+        &words[0..w],
+        sheet,
+        &mut counts[0..k],
+        more,
+        &more_counts[0..l],
+    );
+}
+
 // Makes the calls on the next case, if there is one of a known kind.
 fn run_case(case: usize) -> bool {
     let found = next_kind();
@@ -386,6 +528,8 @@ fn run_case(case: usize) -> bool {
         2 => run_roles(case),
         3 => run_maps(case),
         4 => run_carry(case),
+        5 => run_sheet(case),
+        6 => run_sum(case),
         _ => return false,
     }
     true

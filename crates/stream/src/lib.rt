@@ -1,4 +1,4 @@
-// Runs of words and bytes from standard input, for the programs cases and random: second/README.md has the form.
+// Runs of words, bytes and 32-bit numbers from standard input, for the programs cases and random: second/README.md has the form.
 ghost use Prim.Native.Nat.{_≤_};
 ghost use lib.ListN.{length};
 use table::Found;
@@ -14,6 +14,10 @@ fn joined(low: u8, high: u8) -> u16 {
 
 fn length_of(low: u16, high: u16) -> usize {
     (low as usize) + 65536 * (high as usize)
+}
+
+fn number_of(low: u16, high: u16) -> u32 {
+    (low as u32) + 65536 * (high as u32)
 }
 
 // The kind of the next case, or nothing at the end.
@@ -55,6 +59,12 @@ fn next_word() -> u16 {
     joined(low, next_byte())
 }
 
+// The next 32-bit number, low byte first, 0 at the end.
+pub fn next_number() -> u32 {
+    let low = next_word();
+    number_of(low, next_word())
+}
+
 // Reads this many words, or as many as there is room for.
 pub fn read_words(count: usize, words: &mut [u16]) -> usize
     ensures { λ r. ⌜ r ≤ length (now (words .exit)) ⌝ }
@@ -63,6 +73,19 @@ pub fn read_words(count: usize, words: &mut [u16]) -> usize
     let mut k = 0;
     while k < n {
         words[k] = next_word();
+        k += 1;
+    }
+    n
+}
+
+// Reads this many 32-bit numbers, or as many as there is room for.
+pub fn read_numbers(count: usize, numbers: &mut [u32]) -> usize
+    ensures { λ r. ⌜ r ≤ length (now (numbers .exit)) ⌝ }
+{
+    let n = lesser(count, numbers.len());
+    let mut k = 0;
+    while k < n {
+        numbers[k] = next_number();
         k += 1;
     }
     n
