@@ -7,17 +7,19 @@ use mathlib.Core.Bool.{Bool, true, false, _&&_, _||_, false≢true, and-eq-true-
 use mathlib.Core.List.{List}
 use native.Mathlib.Nat.{eq-or-lt-of-le}
 use native.Mathlib.Omega.{arith}
-use lib.ListN.{getD}
+use lib.ListN.{length, getD}
 use Rattle.table.specs.Words.{types}
-use Rattle.table.specs.Rule.{IsChoice, IsStar}
+use Rattle.table.specs.Rule.{IsChoice, IsStar, countOf, childAt}
 use Rattle.table.specs.Check.{Accepted}
 use Rattle.table.specs.Lex.{Lex, less, same}
 use Rattle.table.specs.steps.Found.{Tells}
 use Rattle.table.proofs.Lowest.{told-yes, told-true, tells-as, tells-by}
 use Rattle.verdict.specs.Below.{ForbiddenBelow}
-use Rattle.verdict.specs.Breaches.{conditionNumber, BreachOf, key, FirstSpot}
+use Rattle.table.proofs.Facts.{facts}
+use Rattle.policy.proofs.Reaches.{reached-from}
+use Rattle.verdict.specs.Breaches.{conditionNumber, CycleBreach, BreachOf, key, FirstSpot}
 use Rattle.verdict.specs.steps.Spoils.{Flagged, Agree}
-use Rattle.verdict.specs.steps.Visits.{Searched, none, first, BreachAt, CycleAt}
+use Rattle.verdict.specs.steps.Visits.{Visited, Searched, none, first, BreachAt, CycleAt}
 use Rattle.verdict.specs.declared.Spot.{Spot}
 use Rattle.verdict.specs.declared.Condition.{Condition}
 use Rattle.verdict.specs.declared.Condition.the-variants.{None, InsertDelete, Chain, Cycle}
@@ -194,6 +196,10 @@ module _ (ws marks : List ℕ) (B : ℕ → ℕ → Type 0) where
         cycle = d;
       }
 
+      -- where there is a chain, and no cycle
+      pub no-cycle-added : IsChoice ws x → known .chain ≡ true → ¬ At Cycle → Added At known known
+      no-cycle-added h c n = choice-added h (flag-up (At Chain) (known .chain) c) (flag-kept (At Cycle) (known .cycle) n)
+
       -- where there is a chain, a cycle is asked by itself
       pub cycle-added : IsChoice ws x → known .chain ≡ true → known .cycle ≡ false → (cycle : Bool) → Tells (At Cycle) cycle
           → Added At known (record { «insert_delete» = known .«insert_delete»; chain = known .chain; cycle = cycle })
@@ -202,6 +208,26 @@ module _ (ws marks : List ℕ) (B : ℕ → ℕ → Type 0) where
       pub chain-added : IsChoice ws x → At Chain → (cycle : Bool) → Tells (At Cycle) cycle
           → Added At known (record { «insert_delete» = known .«insert_delete»; chain = true; cycle = known .cycle || cycle })
       chain-added h b cycle t = choice-added h (inr b) (flag-joined (At Cycle) (known .cycle) cycle t)
+
+-- the children of a type that is visited are all there, and their numbers are indices
+kids-here : {ws marks : List ℕ} {x : ℕ} {kids : List ℕ} → Visited ws marks x kids → length kids ≡ countOf ws x
+kids-here {x = x} v = ap length (v .kids-are) ∙ facts (v .policy .accepted) .children-here x (v .type)
+
+pub kids-small : {ws marks : List ℕ} {x : ℕ} {kids : List ℕ} → Visited ws marks x kids → (i : ℕ) → i < length kids → getD kids i 0 < 256
+kids-small {x = x} {kids = kids} v i l =
+    let f = facts (v .policy .accepted) in
+    let child = ap (λ (k : List ℕ). getD k i 0) (v .kids-are) in
+    omega (arith, child, f .few, f .child-inside x i (v .type) (omega (arith, kids-here v)))
+
+-- a choice with no child that is spoilt breaks condition 3 nowhere
+pub unspoilt-none : {ws marks : List ℕ} (flags : List ℕ) {x : ℕ} (kids : List ℕ) → Visited ws marks x kids
+    → ((i : ℕ) → i < length kids → getD flags (getD kids i 0) 0 ≢ 1) → ¬ BreaksAt ws marks (Flagged flags) (λ y. y ≡ x) Cycle
+unspoilt-none {ws} {marks} flags {x} kids v all b = go (b .here) (cycle-at ws marks (Flagged flags) x b .breach)
+  where
+    go : {s : Spot} {p : ℕ} → s .element ≡ x → CycleBreach ws marks (Flagged flags) s p → ⊥
+    go {s} e c =
+        let from = subst (λ (y : ℕ). s .i < countOf ws y) e (reached-from (c .reached)) in
+        all (s .i) (omega (arith, kids-here v)) (rw (v .kids-are) (subst (λ (y : ℕ). getD flags (childAt ws y (s .i)) 0 ≡ 1) e (c .below)))
 
 -- what is broken by flags that are right is broken
 pub broken-in : {ws marks : List ℕ} {B : ℕ → ℕ → Type 0} {r : Broken} → Accepted ws → Agree ws B (ForbiddenBelow ws marks)

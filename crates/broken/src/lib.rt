@@ -2,7 +2,9 @@
 // something is forbidden. Contracts cite specs/Breaks, and specs/steps/Asking for the parts.
 ghost use mathlib.Core.Path.{_≡_};
 ghost use mathlib.Core.Bool.{true};
-ghost use Prim.Native.Nat.{_<_};
+ghost use mathlib.Core.Logic.{_≢_};
+ghost use Prim.Native.Nat.{ℕ, _<_};
+ghost use lib.ListN.{length, getD};
 ghost use Rattle.table.specs.Words.{types};
 ghost use Rattle.table.specs.Rule.{IsChoice, IsStar, countOf};
 ghost use Rattle.table.specs.Privilege.{firstPrivilege};
@@ -28,6 +30,7 @@ use table::rule::Rule;
 use table::rule::children;
 use table::rule::rule_at;
 use table::words::types;
+use table::words::word_at;
 use verdict::Condition;
 use verdict::breaches::breach_in;
 use verdict::breaches::cycle_breach;
@@ -89,7 +92,22 @@ fn has_cycle(
     true
 }
 
-// Adds what is broken at the choice x, where a chain is known: a cycle is asked by itself, if none is known.
+// Is below no child something forbidden?
+fn none_spoilt(flags: &[u8; 256], kids: &[u16]) -> bool
+    requires { ⌜ ((i : ℕ) → i < length (now kids) → getD (now kids) i 0 < 256) ⌝ }
+    ensures { λ r. ⌜ Tells ((i : ℕ) → i < length (now (kids .entry)) → getD (now (flags .entry)) (getD (now (kids .entry)) i 0) 0 ≢ 1) r ⌝ }
+{
+    let mut i = 0;
+    while i < kids.len() {
+        if flags[word_at(kids, i)] == 1 {
+            return false;
+        }
+        i += 1;
+    }
+    true
+}
+
+// Adds what is broken at the choice x, where a chain is known: a cycle is asked by itself, if none is known and a child is spoilt.
 fn add_cycle(
     words: &[u16],
     marks: &[u8],
@@ -103,6 +121,9 @@ fn add_cycle(
     ensures { λ r. ⌜ Added (BreaksAt (now (words .entry)) (now (marks .entry)) (Flagged (now (flags .entry))) (λ y. y ≡ x)) known r ⌝ }
 {
     if known.cycle {
+        return known;
+    }
+    if none_spoilt(flags, kids) {
         return known;
     }
     let square = reached_by(words, marks, x, n, allowed_rows(marks, n));
