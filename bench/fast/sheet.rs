@@ -1,7 +1,8 @@
 // The monthly sheet. The table is checked once, and what depends on it alone is made once: the order of its types, and for each with privileges
-// where these begin and end. Of a condition is asked whether it is broken somewhere, at no type any more once it is known to be. Marks are counted
-// many at a time, in a byte for what is allowed and one for what is forbidden, which are put into the counts before they run over. Where privileges
-// are few, room is taken, and filled with zeros, for few.
+// where these begin and end. Of a condition is asked whether it is broken somewhere, at no type any more once it is known to be, and at none below
+// which nothing is forbidden; nor is a cycle asked where no child is spoilt and a chain is known. Marks are counted many at a time, in a byte for
+// what is allowed and one for what is forbidden, which are put into the counts before they run over. Where privileges are few, room is taken, and
+// filled with zeros, for few.
 
 use super::{
     check_marks, reach, read_choice, read_table, spoilt_in, star_breach, Refusal, Rows, Table,
@@ -83,14 +84,21 @@ fn broken<const IS_TWO: bool>(table: &Table, owns: &Owns, marks: &[u8]) -> [bool
     let [mut insert_delete, mut chain, mut cycle] = [false; 3];
     for Own { element, first, .. } in owns.iter() {
         let (x, first) = (element as usize, first as usize);
+        if !spoilt[x] {
+            continue;
+        }
         let record = &table.records[x];
         let kids = table.children(record);
         match record[0] {
             CHOICE if !(chain & cycle) => {
+                let spoilt = spoilt_in(kids, &spoilt);
+                if chain & (spoilt == 0) {
+                    continue;
+                }
                 let (allowed, forbidden) = read_choice::<IS_TWO>(marks, first, kids.len());
                 let reached = reach(&allowed, kids.len());
                 chain |= any_chain(&reached, &forbidden);
-                cycle |= cycles(&reached) & spoilt_in(kids, &spoilt) != 0;
+                cycle |= cycles(&reached) & spoilt != 0;
             }
             STAR if !insert_delete => {
                 insert_delete = star_breach::<IS_TWO>(marks, &spoilt, x, kids, first).is_some()
