@@ -1,4 +1,5 @@
-// The monthly sheet (request 12 of document 02): what is counted over the roles of one table, and the calls `month_sheet` and `add_sheets`.
+// The monthly sheet (request 12 of document 02): what is counted over the roles of one table, and the call `month_sheet`. And the sum of two
+// sheets, which the document does not have, for whoever counts on many machines: the call `add_sheets`.
 
 use crate::answers::{refuse_at, refuse_if, Answer};
 use crate::conditions::{check_policy, forced};
@@ -53,7 +54,7 @@ pub fn ranked(counts: &[u32]) -> Vec<usize> {
 }
 
 /// The sheet of a call that is done, with the first of those as its leaders.
-fn done(figures: [u32; 5], counts: &[u32]) -> Sheet {
+pub fn done(figures: [u32; 5], counts: &[u32]) -> Sheet {
     let mut leading = ranked(counts);
     leading.truncate(MOST_LEADERS);
     let mut leaders = [0; MOST_LEADERS];

@@ -119,17 +119,19 @@ fn role(r: &mut Random, table: &Table, way: Way) -> Vec<u8> {
     }
 }
 
-/// So many roles: all the same, all made in one way, or each in another.
+/// So many roles: all the same, all made in one way, or each in another; of more than twelve the others are some of these again.
 fn counted(r: &mut Random, table: &Table, count: usize) -> Vec<Vec<u8>> {
     let (way, alike) = (r.pick(&WAYS), r.below(8));
-    if alike == 0 {
-        return vec![role(r, table, way); count];
-    }
-    let mut made = || {
+    let mut roles = Vec::new();
+    while roles.len() < count.min(if alike == 0 { 1 } else { 12 }) {
         let way = if alike < 4 { way } else { r.pick(&WAYS) };
-        role(r, table, way)
-    };
-    (0..count).map(|_| made()).collect()
+        roles.push(role(r, table, way));
+    }
+    let made = roles.len();
+    while roles.len() < count {
+        roles.push(roles[r.below(made)].clone());
+    }
+    roles
 }
 
 /// So many roles, some of them refused.

@@ -12,7 +12,7 @@ use super::schemas::Schema;
 use super::sheets::{longer, roles, small_schema, MOST_WORDS};
 use crate::calls::TABLE;
 use crate::format::Format;
-use crate::sheet::{month_sheet, Sheet, COUNTS};
+use crate::sheet::{done, month_sheet, Sheet, COUNTS};
 use crate::situations::sum::Pair;
 use crate::situations::sums::{is_in, is_of_faults, USUAL};
 use crate::sum_case::SumCase;
@@ -79,13 +79,16 @@ struct Base {
     numbers: Numbers,
 }
 
-/// A done sheet with these figures; what is not looked at stands there by chance, or as a sheet would have it.
-fn sheet(r: &mut Random, v: usize, figures: [u32; 5]) -> Sheet {
-    let any = r.next() as u32;
-    let leader = |r: &mut Random| r.pick(&[0, v / 2, v.saturating_sub(1), v, v + 1, any as usize]);
-    let leaders = [(); 3].map(|_| leader(r));
-    let place = r.pick(&[0, 0, 0, 1, 2, v, any as usize]);
-    Sheet { number: 0, place, figures, leader_count: r.pick(&[0, 1, 2, 3, 3, 4, any]), leaders }
+/// A done sheet with these figures and counts; in half of the cases what is not looked at stands there by chance.
+fn sheet(r: &mut Random, figures: [u32; 5], counts: &[u32]) -> Sheet {
+    let own = done(figures, counts);
+    if r.one_in(2) {
+        return own;
+    }
+    let (v, any) = (counts.len() / COUNTS, r.next() as u32);
+    let leaders = [(); 3].map(|_| r.pick(&[0, v / 2, v.saturating_sub(1), v, v + 1, any as usize]));
+    let place = r.pick(&[0, 0, 1, 2, v, any as usize]);
+    Sheet { place, leader_count: r.pick(&[0, 1, 2, 3, 4, any]), leaders, ..own }
 }
 
 impl Base {
@@ -99,24 +102,17 @@ impl Base {
         Base { schema, v: table.v(), numbers }
     }
 
-    /// One of the two runs, with so many numbers behind it.
-    fn run(&self, r: &mut Random, of: usize, longer: usize) -> Vec<u32> {
-        let counts = self.numbers.counts.iter().map(|pair| pair[of]);
-        let behind = (0..longer).map(|_| r.pick(&[0, 1, u32::MAX, u32::MAX]));
-        counts.chain(behind).collect()
+    /// One of the two sheets and its counts: just as many as there must be, or more.
+    fn given(&self, r: &mut Random, of: usize) -> (Sheet, Vec<u32>) {
+        let mut counts: Vec<u32> = self.numbers.counts.iter().map(|pair| pair[of]).collect();
+        let sheet = sheet(r, self.numbers.figures.map(|pair| pair[of]), &counts);
+        (0..longer(r)).for_each(|_| counts.push(r.pick(&[0, 1, u32::MAX, u32::MAX])));
+        (sheet, counts)
     }
 
-    /// Each run just as long as it must be, or longer.
     fn sound_case(&self, r: &mut Random) -> SumCase {
-        let [longer, more_longer] = [(); 2].map(|_| longer(r));
-        let [figures, more_figures] = [0, 1].map(|of| self.numbers.figures.map(|pair| pair[of]));
-        SumCase {
-            words: self.schema.words(),
-            sheet: sheet(r, self.v, figures),
-            counts: self.run(r, 0, longer),
-            more: sheet(r, self.v, more_figures),
-            more_counts: self.run(r, 1, more_longer),
-        }
+        let [(sheet, counts), (more, more_counts)] = [0, 1].map(|of| self.given(r, of));
+        SumCase { words: self.schema.words(), sheet, counts, more, more_counts }
     }
 
     /// With faults, or without.

@@ -1,4 +1,4 @@
-// Cases with as many privileges as there may be, and with more than a byte counts.
+// Cases with as many privileges as there may be, and with more than a byte numbers.
 
 use super::super::chance::Random;
 use super::super::roles::table_of;

@@ -15,7 +15,7 @@ fn lent_and_written(it: &Month, known: impl Fn(u32, u32) -> bool) -> bool {
     it.case.counts.iter().zip(written).any(|(&lent, &written)| known(lent, written))
 }
 
-/// Whether two privileges, the first of them leading, are allowed equally often, the higher one in an earlier role.
+/// Whether of two leaders that are allowed equally often the higher one is allowed in an earlier role.
 fn comes_later(it: &Month) -> bool {
     let first = |privilege: usize| it.counted().position(|role| role.marks[privilege] == COUNTED[0]);
     let leaders = &it.sheet.leaders[..it.sheet.leader_count as usize];
@@ -41,14 +41,14 @@ pub const SITUATIONS: &[Situation] = &[
     ("counts longer, numbers other than 0 kept behind", |it| {
         it.counted().count() > 0 && it.case.counts[it.all_counts()..].iter().any(|&number| number != 0)
     }),
-    ("0 over another number", |it| lent_and_written(it, |lent, written| lent != 0 && written == 0)),
-    ("a count over 4,294,967,295", |it| {
+    ("0 written over another number", |it| lent_and_written(it, |lent, written| lent != 0 && written == 0)),
+    ("a count written over 4,294,967,295", |it| {
         lent_and_written(it, |lent, written| lent == u32::MAX && written > 0)
     }),
-    ("no role: counts over other numbers", |it| {
+    ("no role: counts written over other numbers", |it| {
         it.case.roles == 0 && it.v() > 0 && lent_and_written(it, |lent, _| lent != 0)
     }),
-    ("all roles refused: counts over other numbers", |it| {
+    ("all roles refused: counts written over other numbers", |it| {
         it.all(|role| role.is_refused) && lent_and_written(it, |lent, _| lent != 0)
     }),
     ("other leaders than by what is forbidden", |it| {

@@ -1,7 +1,8 @@
 // Situations of sums that are done.
 
 use super::super::sum::{is_most, Pair, Situation, Sum};
-use crate::sheet::{Sheet, COUNTS};
+use crate::sheet::{done, Sheet, COUNTS};
+use crate::sum_case::SumCase;
 
 /// Whether there are privileges, and that is known.
 fn some(it: &Sum, known: impl Fn() -> bool) -> bool {
@@ -36,6 +37,13 @@ fn are_of_roles(it: &Sum) -> bool {
     is_of_roles(one, it.case.sheet) && is_of_roles(more, it.case.more)
 }
 
+/// Whether each sheet is given as a call would have answered it.
+fn have_leaders(it: &Sum) -> bool {
+    let SumCase { sheet, counts, more, more_counts, .. } = it.case;
+    let is_own = |sheet: &Sheet, counts: &[u32]| *sheet == done(sheet.figures, &counts[..it.all()]);
+    is_own(sheet, counts) && is_own(more, more_counts)
+}
+
 /// Whether there are numbers behind all counts of each run, and their sum would run over.
 fn runs_over_behind(it: &Sum) -> bool {
     let behind = [&it.case.counts, &it.case.more_counts].map(|run| run.get(it.all()).copied().unwrap_or(0));
@@ -64,6 +72,9 @@ pub const SITUATIONS: &[Situation] = &[
     ("two sheets of roles", |it| some(it, || are_of_roles(it))),
     ("two sheets of roles, five figures in each", |it| {
         some(it, || are_of_roles(it) && it.figures().iter().flatten().all(|&figure| figure > 0))
+    }),
+    ("two sheets of roles, each with its own leaders", |it| {
+        some(it, || are_of_roles(it) && have_leaders(it))
     }),
     ("a sheet of roles and one of no role", |it| {
         some(it, || matches!(roles(it), [Some(one), Some(0)] if one > 0) && it.case.more.figures == [0; 5])
