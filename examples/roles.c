@@ -8,46 +8,7 @@
 #include <string.h>
 
 #include "finnedscarf.h"
-
-enum { MOST = 8192 };
-
-struct policy {
-    uint8_t bytes[MOST + 1];
-    uint16_t words[MOST / 2];
-    size_t words_length, marks_length;
-};
-
-static void stop(const char *file, const char *what)
-{
-    fprintf(stderr, "%s: %s\n", file, what);
-    exit(2);
-}
-
-static void read_policy(const char *file, struct policy *p)
-{
-    FILE *from = fopen(file, "rb");
-    if (!from)
-        stop(file, "cannot be read");
-    size_t length = fread(p->bytes, 1, sizeof p->bytes, from);
-    if (ferror(from))
-        stop(file, "cannot be read");
-    fclose(from);
-    if (length > MOST)
-        stop(file, "over 8,192 bytes");
-
-    size_t count = length / 2;
-    for (size_t k = 0; k < count; k++)
-        p->words[k] = (uint16_t)(p->bytes[2 * k] + 256 * p->bytes[2 * k + 1]);
-    if (count > 1 && p->words[1] < count)
-        count = p->words[1];
-    p->words_length = count;
-    p->marks_length = length - 2 * count;
-}
-
-static int same_table(const struct policy *a, const struct policy *b)
-{
-    return a->words_length == b->words_length && memcmp(a->words, b->words, a->words_length * sizeof a->words[0]) == 0;
-}
+#include "policy.h"
 
 static void say_role(const char *file, uint16_t number, const uint8_t *marks, size_t v)
 {
@@ -76,11 +37,8 @@ int main(int argc, char **argv)
     size_t v = first.marks_length;
     for (size_t r = 0; r < roles; r++) {
         read_policy(argv[r + 1], &other);
-        if (!same_table(&first, &other))
-            stop(argv[r + 1], "another table than that of the first file");
-        if (other.marks_length != v)
-            stop(argv[r + 1], "not as many marks as the first file has");
-        memcpy(marks + r * v, other.bytes + 2 * other.words_length, v);
+        stop_if_other(argv[r + 1], &first, &other);
+        memcpy(marks + r * v, marks_of(&other), v);
     }
 
     finnedscarf_outcome o = finnedscarf_complete_roles(first.words, first.words_length, marks, roles * v, numbers, roles, out, roles * v);

@@ -2,42 +2,16 @@
 //! by one call. Says for each file the completed marks, or the number with which that role is refused. Exits with 0 if no role is refused, 1
 //! if one is, 2 if the call is or a file cannot be taken.
 
+mod policy;
+
+use policy::{read_marks, read_policy, Policy};
 use std::process::ExitCode;
-
-struct Policy {
-    words: Vec<u16>,
-    marks: Vec<u8>,
-}
-
-fn read_policy(file: &str) -> Result<Policy, String> {
-    let bytes = std::fs::read(file).map_err(|_| format!("{file}: cannot be read"))?;
-    if bytes.len() > 8192 {
-        return Err(format!("{file}: over 8,192 bytes"));
-    }
-    let mut words: Vec<u16> = bytes.chunks_exact(2).map(|pair| u16::from_le_bytes([pair[0], pair[1]])).collect();
-    if let Some(&length) = words.get(1) {
-        words.truncate(length.into());
-    }
-    let marks = bytes[2 * words.len()..].to_vec();
-    Ok(Policy { words, marks })
-}
 
 /// The table of all files, and their marks one after another.
 fn read_all(files: &[String]) -> Result<Policy, String> {
-    let first = files.first().ok_or("usage: roles FILE...")?;
-    let Policy { words, marks } = read_policy(first)?;
-    let mut all = Vec::new();
-    for file in files {
-        let other = read_policy(file)?;
-        if other.words != words {
-            return Err(format!("{file}: another table than that of the first file"));
-        }
-        if other.marks.len() != marks.len() {
-            return Err(format!("{file}: not as many marks as the first file has"));
-        }
-        all.extend(other.marks);
-    }
-    Ok(Policy { words, marks: all })
+    let first = read_policy(files.first().ok_or("usage: roles FILE...")?)?;
+    let marks = read_marks(files, &first)?;
+    Ok(Policy { words: first.words, marks })
 }
 
 fn main() -> ExitCode {

@@ -10,46 +10,9 @@
 #include <string.h>
 
 #include "finnedscarf.h"
+#include "policy.h"
 
-enum { MOST = 8192, MOST_COUNTS = 3 * 4096 };
-
-struct policy {
-    uint8_t bytes[MOST + 1];
-    uint16_t words[MOST / 2];
-    size_t words_length, marks_length;
-};
-
-static void stop(const char *file, const char *what)
-{
-    fprintf(stderr, "%s: %s\n", file, what);
-    exit(2);
-}
-
-static void read_policy(const char *file, struct policy *p)
-{
-    FILE *from = fopen(file, "rb");
-    if (!from)
-        stop(file, "cannot be read");
-    size_t length = fread(p->bytes, 1, sizeof p->bytes, from);
-    if (ferror(from))
-        stop(file, "cannot be read");
-    fclose(from);
-    if (length > MOST)
-        stop(file, "over 8,192 bytes");
-
-    size_t count = length / 2;
-    for (size_t k = 0; k < count; k++)
-        p->words[k] = (uint16_t)(p->bytes[2 * k] + 256 * p->bytes[2 * k + 1]);
-    if (count > 1 && p->words[1] < count)
-        count = p->words[1];
-    p->words_length = count;
-    p->marks_length = length - 2 * count;
-}
-
-static int same_table(const struct policy *a, const struct policy *b)
-{
-    return a->words_length == b->words_length && memcmp(a->words, b->words, a->words_length * sizeof a->words[0]) == 0;
-}
+enum { MOST_COUNTS = 3 * 4096 };
 
 static finnedscarf_sheet done(finnedscarf_sheet s)
 {
@@ -78,11 +41,8 @@ static void read_role(struct month *m, const char *file)
     static struct policy other;
     struct policy *own = m->roles ? &other : &m->first;
     read_policy(file, own);
-    if (!same_table(&m->first, own))
-        stop(file, "another table than that of the first file");
-    if (own->marks_length != m->first.marks_length)
-        stop(file, "not as many marks as the first file has");
-    memcpy(m->marks + m->roles * own->marks_length, own->bytes + 2 * own->words_length, own->marks_length);
+    stop_if_other(file, &m->first, own);
+    memcpy(m->marks + m->roles * own->marks_length, marks_of(own), own->marks_length);
     m->parts[m->parts_length - 1]++;
     m->roles++;
 }

@@ -3,26 +3,11 @@
 //! machine, and the sheets are added. Says the sheet, and of each privilege in how many roles it is allowed, forbidden and unset. Exits with 0
 //! if all roles are clean, 1 if one is not, 2 if a call is refused or a file cannot be taken.
 
+mod policy;
+
 use finnedscarf::{add_sheets, month_sheet, Refusal, Sheet};
+use policy::{read_marks, read_policy, Policy};
 use std::process::ExitCode;
-
-struct Policy {
-    words: Vec<u16>,
-    marks: Vec<u8>,
-}
-
-fn read_policy(file: &str) -> Result<Policy, String> {
-    let bytes = std::fs::read(file).map_err(|_| format!("{file}: cannot be read"))?;
-    if bytes.len() > 8192 {
-        return Err(format!("{file}: over 8,192 bytes"));
-    }
-    let mut words: Vec<u16> = bytes.chunks_exact(2).map(|pair| u16::from_le_bytes([pair[0], pair[1]])).collect();
-    if let Some(&length) = words.get(1) {
-        words.truncate(length.into());
-    }
-    let marks = bytes[2 * words.len()..].to_vec();
-    Ok(Policy { words, marks })
-}
 
 /// Files that are counted by one call: how many roles they are, and their marks one after another.
 struct Part {
@@ -31,19 +16,7 @@ struct Part {
 }
 
 fn read_part(files: &[String], first: &Policy) -> Result<Part, String> {
-    let mut part = Part { roles: 0, marks: Vec::new() };
-    for file in files {
-        let other = read_policy(file)?;
-        if other.words != first.words {
-            return Err(format!("{file}: another table than that of the first file"));
-        }
-        if other.marks.len() != first.marks.len() {
-            return Err(format!("{file}: not as many marks as the first file has"));
-        }
-        part.roles += 1;
-        part.marks.extend(other.marks);
-    }
-    Ok(part)
+    Ok(Part { roles: files.len() as u32, marks: read_marks(files, first)? })
 }
 
 /// The policy in the first file, and all parts; a `+` begins the next one.

@@ -1,6 +1,7 @@
 // Making cases: the same ones for the same seed.
 
 mod aims;
+pub mod bases;
 pub mod carrying;
 mod chains;
 pub mod chance;
@@ -27,6 +28,8 @@ use damage::spoil;
 use policies::{lent, policy, proposal};
 use schemas::{schema, Schema};
 use shapes::{full_ladder, large, long_chain};
+use sheets::Month;
+use sums::Sheets;
 
 fn sound_case(r: &mut Random, schema: &Schema) -> PolicyCase {
     let words = schema.words();
@@ -94,7 +97,7 @@ pub fn cases(
     let of_two = second_format::cases(seed, second_format).map(Case::Policy);
     let (roles, maps) = (roles::cases(seed, roles), maps::cases(seed, maps));
     let carry = carrying::cases(seed, carry).map(Case::Carry);
-    let (sheets, sums) = (sheets::cases(seed, sheets), sums::cases(seed, sums));
+    let (sheets, sums) = (bases::cases::<Month>(seed, sheets), bases::cases::<Sheets>(seed, sums));
     let of_policies = of_one.chain(of_two).chain(roles.map(Case::Roles)).chain(maps.map(Case::Maps));
     of_policies.chain(carry).chain(sheets.map(Case::Sheet)).chain(sums.map(Case::Sum))
 }

@@ -5,6 +5,7 @@ mod breaches;
 pub mod carrying;
 mod chains;
 mod completions;
+mod counted;
 mod counts;
 mod leading;
 pub mod maps;

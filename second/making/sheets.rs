@@ -1,30 +1,23 @@
-// Cases of the monthly sheet (request 12): made in turn for each number of a table, with a large table, and for the situation that came least
-// often so far.
+// Cases of the monthly sheet (request 12).
 
 mod faults;
 pub mod large;
 
-use super::aims::Aims;
+use super::bases::Base;
 use super::chance::Random;
-use super::damage::refused_words;
 use super::files::bare;
 use super::policies::{mixed, policy};
 use super::roles::{bend, clean, table_of, to_be_refused};
 use super::schemas::{numbered, Schema};
 use super::shapes::{dress, usual_shape};
-use crate::calls::TABLE;
 use crate::format::Format;
 use crate::sheet::{breaks, COUNTS};
 use crate::sheet_case::SheetCase;
 use crate::situations::sheets::{is_in, is_of_faults, USUAL};
+use crate::situations::Situations;
 use crate::table::{total, Table, Type, CHOICE, SEQUENCE, STAR};
 use faults::spoil;
 use large::large_case;
-
-const FORMATS: [Format; 2] = [Format::One, Format::Two];
-
-/// The most words of a small table that is refused; longer ones are left to the other kinds of cases.
-pub const MOST_WORDS: usize = 128;
 
 /// How many roles: as a rule few.
 fn role_count(r: &mut Random) -> usize {
@@ -158,23 +151,33 @@ pub fn longer(r: &mut Random) -> usize {
 }
 
 /// What a case is made of: a table, and the marks of some roles.
-struct Base {
+pub struct Month {
     schema: Schema,
     v: usize,
     roles: u32,
     marks: Vec<u8>,
 }
 
-impl Base {
-    fn of(r: &mut Random, format: Format) -> Base {
+impl Base for Month {
+    type Case = SheetCase;
+
+    const TURN: usize = 23;
+
+    const USUAL: Situations<SheetCase> = USUAL;
+
+    fn of(r: &mut Random, format: Format) -> Month {
         let count = role_count(r);
         let schema = small_schema(r, format, most_privileges(count));
         let table = table_of(&schema);
         if table.v() == 0 {
-            return Base { schema, v: 0, roles: any_count(r), marks: Vec::new() };
+            return Month { schema, v: 0, roles: any_count(r), marks: Vec::new() };
         }
         let marks = roles(r, &table, count).concat();
-        Base { schema, v: table.v(), roles: count as u32, marks }
+        Month { schema, v: table.v(), roles: count as u32, marks }
+    }
+
+    fn schema(&self) -> &Schema {
+        &self.schema
     }
 
     /// With counts as lent: as a rule just as long as they must be, and sometimes longer.
@@ -184,61 +187,23 @@ impl Base {
         SheetCase { words: self.schema.words(), roles: self.roles, marks: self.marks.clone(), counts }
     }
 
-    /// With faults, or without.
-    fn case(&self, r: &mut Random, is_spoilt: bool) -> SheetCase {
-        let mut case = self.sound_case(r);
-        if is_spoilt {
-            spoil(r, self, &mut case);
-        }
-        case
+    fn spoil(&self, r: &mut Random, case: &mut SheetCase) {
+        spoil(r, self, case);
     }
-}
 
-/// A small case, with faults or without.
-pub fn any_case(r: &mut Random, is_spoilt: bool) -> SheetCase {
-    let format = r.pick(&FORMATS);
-    Base::of(r, format).case(r, is_spoilt)
-}
-
-/// A table of this format that is refused with this number; in some cases with other faults too.
-fn refused_case(r: &mut Random, format: Format, number: usize) -> SheetCase {
-    loop {
-        let base = Base::of(r, format);
-        let words = refused_words(r, &base.schema, number).filter(|words| words.len() <= MOST_WORDS);
-        if let Some(words) = words {
-            let is_spoilt = r.one_in(2);
-            return SheetCase { words, ..base.case(r, is_spoilt) };
-        }
+    fn with_words(case: SheetCase, words: Vec<u16>) -> SheetCase {
+        SheetCase { words, ..case }
     }
-}
 
-/// A small case in this situation: of each base some faults are tried, where it is one of faults.
-fn aimed_case(r: &mut Random, situation: &'static str) -> SheetCase {
-    let is_spoilt = is_of_faults(situation);
-    let (tries, meets) = (if is_spoilt { 4 } else { 1 }, is_in(situation));
-    loop {
-        let format = r.pick(&FORMATS);
-        let base = Base::of(r, format);
-        if let Some(case) = (0..tries).map(|_| base.case(r, is_spoilt)).find(&meets) {
-            return case;
-        }
+    fn large_case(r: &mut Random, turn: usize) -> SheetCase {
+        large_case(r, turn)
     }
-}
 
-/// Of five cases one has a refused table, all numbers in turn and the formats in turn; the last of 23 is a large one, and each of the others is
-/// made for the situation that came least often so far.
-pub fn cases(seed: u64, count: usize) -> impl Iterator<Item = SheetCase> {
-    let mut r = Random(seed);
-    let refusals = &TABLE[1..];
-    let mut aims = Aims::new(USUAL);
-    (0..count).map(move |k| {
-        let turn = k / 5;
-        let case = match k % 5 {
-            _ if k % 23 == 22 => large_case(&mut r, k / 23),
-            0 => refused_case(&mut r, FORMATS[turn / refusals.len() % 2], refusals[turn % refusals.len()]),
-            _ => aimed_case(&mut r, aims.least()),
-        };
-        aims.add(&case);
-        case
-    })
+    fn is_of_faults(situation: &str) -> bool {
+        is_of_faults(situation)
+    }
+
+    fn is_in(situation: &'static str) -> impl Fn(&SheetCase) -> bool {
+        is_in(situation)
+    }
 }

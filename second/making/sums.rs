@@ -1,26 +1,22 @@
-// Cases of sheets that are added (request 12): made in turn for each number of a table, with a large table, and for the situation that came
-// least often so far.
+// Cases of sheets that are added (request 12).
 
 mod faults;
 mod large;
 
-use super::aims::Aims;
+use super::bases::Base;
 use super::chance::Random;
-use super::damage::refused_words;
 use super::roles::table_of;
 use super::schemas::Schema;
-use super::sheets::{longer, roles, small_schema, MOST_WORDS};
-use crate::calls::TABLE;
+use super::sheets::{longer, roles, small_schema};
 use crate::format::Format;
 use crate::sheet::{done, month_sheet, Sheet, COUNTS};
 use crate::situations::sum::Pair;
 use crate::situations::sums::{is_in, is_of_faults, USUAL};
+use crate::situations::Situations;
 use crate::sum_case::SumCase;
 use crate::table::Table;
 use faults::spoil;
 use large::large_case;
-
-const FORMATS: [Format; 2] = [Format::One, Format::Two];
 
 /// The most privileges of a small table.
 const MOST: usize = 9;
@@ -73,7 +69,7 @@ fn numbers_of_roles(r: &mut Random, words: &[u16], table: &Table) -> Numbers {
 }
 
 /// What a case is made of: a table, and numbers for two sheets that can be added.
-struct Base {
+pub struct Sheets {
     schema: Schema,
     v: usize,
     numbers: Numbers,
@@ -91,17 +87,7 @@ fn sheet(r: &mut Random, figures: [u32; 5], counts: &[u32]) -> Sheet {
     Sheet { place, leader_count: r.pick(&[0, 1, 2, 3, 4, any]), leaders, ..own }
 }
 
-impl Base {
-    fn of(r: &mut Random, format: Format) -> Base {
-        let schema = small_schema(r, format, MOST);
-        let (words, table) = (schema.words(), table_of(&schema));
-        let numbers = match r.one_in(3) {
-            true if table.v() > 0 => numbers_of_roles(r, &words, &table),
-            _ => any_numbers(r, table.v()),
-        };
-        Base { schema, v: table.v(), numbers }
-    }
-
+impl Sheets {
     /// One of the two sheets and its counts: just as many as there must be, or more.
     fn given(&self, r: &mut Random, of: usize) -> (Sheet, Vec<u32>) {
         let mut counts: Vec<u32> = self.numbers.counts.iter().map(|pair| pair[of]).collect();
@@ -109,67 +95,51 @@ impl Base {
         (0..longer(r)).for_each(|_| counts.push(r.pick(&[0, 1, u32::MAX, u32::MAX])));
         (sheet, counts)
     }
+}
+
+impl Base for Sheets {
+    type Case = SumCase;
+
+    const TURN: usize = 55;
+
+    const USUAL: Situations<SumCase> = USUAL;
+
+    fn of(r: &mut Random, format: Format) -> Sheets {
+        let schema = small_schema(r, format, MOST);
+        let (words, table) = (schema.words(), table_of(&schema));
+        let numbers = match r.one_in(3) {
+            true if table.v() > 0 => numbers_of_roles(r, &words, &table),
+            _ => any_numbers(r, table.v()),
+        };
+        Sheets { schema, v: table.v(), numbers }
+    }
+
+    fn schema(&self) -> &Schema {
+        &self.schema
+    }
 
     fn sound_case(&self, r: &mut Random) -> SumCase {
         let [(sheet, counts), (more, more_counts)] = [0, 1].map(|of| self.given(r, of));
         SumCase { words: self.schema.words(), sheet, counts, more, more_counts }
     }
 
-    /// With faults, or without.
-    fn case(&self, r: &mut Random, is_spoilt: bool) -> SumCase {
-        let mut case = self.sound_case(r);
-        if is_spoilt {
-            spoil(r, self, &mut case);
-        }
-        case
+    fn spoil(&self, r: &mut Random, case: &mut SumCase) {
+        spoil(r, self, case);
     }
-}
 
-/// A small case, with faults or without.
-pub fn any_case(r: &mut Random, is_spoilt: bool) -> SumCase {
-    let format = r.pick(&FORMATS);
-    Base::of(r, format).case(r, is_spoilt)
-}
-
-/// A table of this format that is refused with this number; in some cases with other faults too.
-fn refused_case(r: &mut Random, format: Format, number: usize) -> SumCase {
-    loop {
-        let base = Base::of(r, format);
-        let words = refused_words(r, &base.schema, number).filter(|words| words.len() <= MOST_WORDS);
-        if let Some(words) = words {
-            let is_spoilt = r.one_in(2);
-            return SumCase { words, ..base.case(r, is_spoilt) };
-        }
+    fn with_words(case: SumCase, words: Vec<u16>) -> SumCase {
+        SumCase { words, ..case }
     }
-}
 
-/// A small case in this situation: of each base some faults are tried, where it is one of faults.
-fn aimed_case(r: &mut Random, situation: &'static str) -> SumCase {
-    let is_spoilt = is_of_faults(situation);
-    let (tries, meets) = (if is_spoilt { 4 } else { 1 }, is_in(situation));
-    loop {
-        let format = r.pick(&FORMATS);
-        let base = Base::of(r, format);
-        if let Some(case) = (0..tries).map(|_| base.case(r, is_spoilt)).find(&meets) {
-            return case;
-        }
+    fn large_case(r: &mut Random, turn: usize) -> SumCase {
+        large_case(r, turn)
     }
-}
 
-/// Of five cases one has a refused table, all numbers in turn and the formats in turn; the last of 55 is a large one, and each of the others is
-/// made for the situation that came least often so far.
-pub fn cases(seed: u64, count: usize) -> impl Iterator<Item = SumCase> {
-    let mut r = Random(seed);
-    let refusals = &TABLE[1..];
-    let mut aims = Aims::new(USUAL);
-    (0..count).map(move |k| {
-        let turn = k / 5;
-        let case = match k % 5 {
-            _ if k % 55 == 54 => large_case(&mut r, k / 55),
-            0 => refused_case(&mut r, FORMATS[turn / refusals.len() % 2], refusals[turn % refusals.len()]),
-            _ => aimed_case(&mut r, aims.least()),
-        };
-        aims.add(&case);
-        case
-    })
+    fn is_of_faults(situation: &str) -> bool {
+        is_of_faults(situation)
+    }
+
+    fn is_in(situation: &'static str) -> impl Fn(&SumCase) -> bool {
+        is_in(situation)
+    }
 }

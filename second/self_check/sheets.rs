@@ -9,7 +9,9 @@ mod streamed;
 use super::{expect, OFTEN};
 use crate::cases::Case;
 use crate::counting::Overview;
-use crate::making::{sheets, sums};
+use crate::making::bases::cases;
+use crate::making::sheets::Month;
+use crate::making::sums::Sheets;
 
 /// As many sheets and sums as are stored for the gate.
 const COUNTS: [usize; 2] = [1200, 1100];
@@ -19,7 +21,7 @@ const SOMETIMES: usize = 5;
 
 fn self_stored(seed: u64) -> String {
     let [sheets, sums] = COUNTS;
-    let cases = sheets::cases(seed, sheets).map(Case::Sheet).chain(sums::cases(seed, sums).map(Case::Sum));
+    let cases = cases::<Month>(seed, sheets).map(Case::Sheet).chain(cases::<Sheets>(seed, sums).map(Case::Sum));
     let overview = Overview::of(cases);
     let of_answers = overview.fewest_of_answers();
     let (usual, large) = (overview.fewest_of_sheets(), overview.fewest_of_large_sheets());

@@ -1,12 +1,13 @@
 // A call on the roles of a month (request 12), and what is asked of it.
 
+use super::counted::Counted;
 use super::leading::Leading;
 use crate::conditions::first_breach;
-use crate::sheet::{breaks, Sheet, COUNTED, COUNTS};
+use crate::sheet::{breaks, COUNTED, COUNTS};
 use crate::sheet_case::{SheetCase, CALLS};
-use crate::stream::to_numbers;
-use crate::table::{check_table, Table, FORBIDDEN, UNSET};
+use crate::table::{Table, FORBIDDEN, UNSET};
 use std::cell::OnceCell;
+use std::ops::Deref;
 
 /// A role of a call that is done.
 pub struct Role<'a> {
@@ -19,14 +20,17 @@ pub struct Role<'a> {
 }
 
 pub struct Month<'a> {
-    pub case: &'a SheetCase,
-    /// Where it is accepted.
-    pub table: Option<Table>,
-    pub sheet: Sheet,
-    /// The counts afterwards.
-    pub counts: Vec<u32>,
+    call: Counted<'a, SheetCase>,
     /// Where the call is done and there is a privilege, once they are asked.
     roles: OnceCell<Vec<Role<'a>>>,
+}
+
+impl<'a> Deref for Month<'a> {
+    type Target = Counted<'a, SheetCase>;
+
+    fn deref(&self) -> &Counted<'a, SheetCase> {
+        &self.call
+    }
 }
 
 /// A situation of such a call: its name, and whether a case is in it.
@@ -64,32 +68,7 @@ impl Role<'_> {
 
 impl<'a> Month<'a> {
     pub fn of(case: &'a SheetCase) -> Month<'a> {
-        let told = (CALLS[0].make)(case);
-        Month {
-            case,
-            table: check_table(&case.words).ok(),
-            sheet: told.sheet.expect("the call answers a sheet"),
-            counts: to_numbers(&told.written[0]),
-            roles: OnceCell::new(),
-        }
-    }
-
-    pub fn number(&self) -> usize {
-        self.sheet.number
-    }
-
-    pub fn is_done(&self) -> bool {
-        self.number() == 0
-    }
-
-    /// 0 where the table is refused.
-    pub fn v(&self) -> usize {
-        self.table.as_ref().map_or(0, Table::v)
-    }
-
-    /// How many counts all privileges have.
-    pub fn all_counts(&self) -> usize {
-        COUNTS * self.v()
+        Month { call: Counted::of(case, &case.words, (CALLS[0].make)(case)), roles: OnceCell::new() }
     }
 
     /// How many marks there should be.

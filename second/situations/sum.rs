@@ -1,19 +1,10 @@
 // A call that adds two sheets (request 12), and what is asked of it.
 
+use super::counted::Counted;
 use super::leading::Leading;
-use crate::sheet::{Sheet, COUNTS};
-use crate::stream::to_numbers;
 use crate::sum_case::{SumCase, CALLS};
-use crate::table::{check_table, Table};
 
-pub struct Sum<'a> {
-    pub case: &'a SumCase,
-    /// Where it is accepted.
-    pub table: Option<Table>,
-    pub sheet: Sheet,
-    /// The counts afterwards.
-    pub counts: Vec<u32>,
-}
+pub type Sum<'a> = Counted<'a, SumCase>;
 
 /// A situation of such a call: its name, and whether a case is in it.
 pub type Situation = (&'static str, fn(&Sum) -> bool);
@@ -30,44 +21,20 @@ pub fn is_most([one, other]: Pair) -> bool {
     one.checked_add(other) == Some(u32::MAX)
 }
 
+pub fn sum_of(case: &SumCase) -> Sum<'_> {
+    Counted::of(case, &case.words, (CALLS[0].make)(case))
+}
+
 impl Sum<'_> {
-    pub fn of(case: &SumCase) -> Sum<'_> {
-        let told = (CALLS[0].make)(case);
-        Sum {
-            case,
-            table: check_table(&case.words).ok(),
-            sheet: told.sheet.expect("the call answers a sheet"),
-            counts: to_numbers(&told.written[0]),
-        }
-    }
-
-    pub fn number(&self) -> usize {
-        self.sheet.number
-    }
-
-    pub fn is_done(&self) -> bool {
-        self.number() == 0
-    }
-
-    /// 0 where the table is refused.
-    pub fn v(&self) -> usize {
-        self.table.as_ref().map_or(0, Table::v)
-    }
-
-    /// How many counts all privileges have.
-    pub fn all(&self) -> usize {
-        COUNTS * self.v()
-    }
-
     /// By how many numbers each run of counts is longer than it must be.
     pub fn over(&self) -> [isize; 2] {
-        [&self.case.counts, &self.case.more_counts].map(|run| run.len() as isize - self.all() as isize)
+        [&self.case.counts, &self.case.more_counts].map(|run| run.len() as isize - self.all_counts() as isize)
     }
 
     /// The two numbers of each count, as far as both runs have it.
     pub fn pairs(&self) -> Vec<Pair> {
         let SumCase { counts, more_counts, .. } = self.case;
-        counts.iter().zip(more_counts).take(self.all()).map(|(&one, &other)| [one, other]).collect()
+        counts.iter().zip(more_counts).take(self.all_counts()).map(|(&one, &other)| [one, other]).collect()
     }
 
     /// The two numbers of each figure.
@@ -98,14 +65,14 @@ impl Sum<'_> {
     /// Where the call is done and there is a privilege.
     pub fn leading(&self) -> Option<Leading> {
         let leads = self.is_done() && self.v() > 0;
-        leads.then(|| Leading::of(&self.counts[..self.all()]))
+        leads.then(|| Leading::of(&self.counts[..self.all_counts()]))
     }
 
     /// The leaders of each of the two sheets, where the call is done.
     pub fn leaders_before(&self) -> [Vec<usize>; 2] {
         let SumCase { counts, more_counts, .. } = self.case;
         [counts, more_counts].map(|counts| match self.is_done() {
-            true => Leading::of(&counts[..self.all()]).leaders().to_vec(),
+            true => Leading::of(&counts[..self.all_counts()]).leaders().to_vec(),
             false => Vec::new(),
         })
     }

@@ -6,7 +6,7 @@ mod over;
 mod summed;
 
 use super::leading;
-use super::sum::{Situation, Sum};
+use super::sum::{sum_of, Situation, Sum};
 use super::Situations;
 use crate::sum_case::SumCase;
 
@@ -20,7 +20,7 @@ pub const USUAL: Situations<SumCase> = Situations {
     of: "sums",
     names: || [names_of(&situations()), leading::names()].concat(),
     found: |case| {
-        let sum = Sum::of(case);
+        let sum = sum_of(case);
         [found_in(&sum, &situations()), leading::found(&sum.leading())].concat()
     },
 };
@@ -29,7 +29,7 @@ pub const USUAL: Situations<SumCase> = Situations {
 pub const LARGE: Situations<SumCase> = Situations {
     of: "sums with large tables",
     names: || names_of(large::SITUATIONS),
-    found: |case| found_in(&Sum::of(case), large::SITUATIONS),
+    found: |case| found_in(&sum_of(case), large::SITUATIONS),
 };
 
 fn names_of(situations: &[Situation]) -> Vec<&'static str> {
@@ -49,7 +49,7 @@ pub fn is_of_faults(name: &str) -> bool {
 pub fn is_in(name: &'static str) -> impl Fn(&SumCase) -> bool {
     let situation = situations().into_iter().find(|situation| situation.0 == name);
     move |case| {
-        let sum = Sum::of(case);
+        let sum = sum_of(case);
         situation.map_or_else(|| leading::found(&sum.leading()).contains(&name), |it| (it.1)(&sum))
     }
 }

@@ -3,7 +3,7 @@
 use super::super::chance::Random;
 use super::super::damage::spoil_table;
 use super::super::roles::bend;
-use super::{numbers, Base};
+use super::{numbers, Month};
 use crate::sheet::COUNTS;
 use crate::sheet_case::SheetCase;
 use crate::table::UNSET;
@@ -49,7 +49,7 @@ fn add_marks(r: &mut Random, case: &mut SheetCase) {
 }
 
 /// Marks and roles that are not in keeping.
-fn spoil_marks(r: &mut Random, base: &Base, case: &mut SheetCase) {
+fn spoil_marks(r: &mut Random, base: &Month, case: &mut SheetCase) {
     match (base.v, r.below(10)) {
         (0, _) => add_marks(r, case),
         (v, 0..=3) => spoil_length(r, v, &mut case.marks),
@@ -76,7 +76,7 @@ fn spoil_counts(r: &mut Random, v: usize, case: &mut SheetCase) {
 }
 
 /// A fault that the check of this rank finds, as a rule.
-fn spoil_at(r: &mut Random, rank: usize, base: &Base, case: &mut SheetCase) {
+fn spoil_at(r: &mut Random, rank: usize, base: &Month, case: &mut SheetCase) {
     match rank {
         0 => spoil_table(r, &base.schema, &mut case.words),
         1 => spoil_marks(r, base, case),
@@ -85,7 +85,7 @@ fn spoil_at(r: &mut Random, rank: usize, base: &Base, case: &mut SheetCase) {
 }
 
 /// A fault of one rank, and of later ranks none or one in two; sometimes a mark above 2 besides.
-pub fn spoil(r: &mut Random, base: &Base, case: &mut SheetCase) {
+pub fn spoil(r: &mut Random, base: &Month, case: &mut SheetCase) {
     let (first, more) = (r.below(RANKS), r.one_in(2));
     if r.one_in(4) {
         bend(r, &mut case.marks);

@@ -1,11 +1,12 @@
 // Cases with as many privileges as there may be, or nearly, and with more roles than a byte counts.
 
+use super::super::bases::FORMATS;
 use super::super::chance::Random;
 use super::super::policies::{mixed, policy};
 use super::super::roles::{bend, table_of};
 use super::super::schemas::Schema;
 use super::super::shapes::{fill, full_ladder};
-use super::{numbers, FORMATS};
+use super::numbers;
 use crate::conditions::first_breach;
 use crate::format::Format;
 use crate::sheet::COUNTS;

@@ -2,7 +2,7 @@
 
 use super::super::chance::Random;
 use super::super::damage::spoil_table;
-use super::Base;
+use super::Sheets;
 use crate::sheet::COUNTS;
 use crate::situations::sum::Pair;
 use crate::sum_case::SumCase;
@@ -91,7 +91,7 @@ fn spoil_sums(r: &mut Random, v: usize, case: &mut SumCase) {
 }
 
 /// A fault that the check of this rank finds, as a rule.
-fn spoil_at(r: &mut Random, rank: usize, base: &Base, case: &mut SumCase) {
+fn spoil_at(r: &mut Random, rank: usize, base: &Sheets, case: &mut SumCase) {
     match rank {
         0 => spoil_table(r, &base.schema, &mut case.words),
         1 => spoil_room(r, base.v, case),
@@ -101,7 +101,7 @@ fn spoil_at(r: &mut Random, rank: usize, base: &Base, case: &mut SumCase) {
 }
 
 /// A fault of one rank, and of later ranks none or one in two. The last one comes first, so that a run is bent before it gets shorter.
-pub fn spoil(r: &mut Random, base: &Base, case: &mut SumCase) {
+pub fn spoil(r: &mut Random, base: &Sheets, case: &mut SumCase) {
     let (first, more) = (r.pick(&[0, 1, 2, 3, 3]), r.one_in(2));
     for rank in (first..RANKS).rev() {
         if rank == first || more && r.one_in(2) {

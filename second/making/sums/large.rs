@@ -1,11 +1,12 @@
 // Cases with as many privileges as there may be, and with more than a byte numbers.
 
+use super::super::bases::{Base, FORMATS};
 use super::super::chance::Random;
 use super::super::roles::table_of;
 use super::super::schemas::Schema;
 use super::super::shapes::wide_of;
 use super::super::sheets::large::{full, HIGH};
-use super::{Base, Numbers, FORMATS};
+use super::{Numbers, Sheets};
 use crate::format::Format;
 use crate::sheet::COUNTS;
 use crate::sum_case::SumCase;
@@ -30,10 +31,10 @@ fn medium(r: &mut Random) -> Schema {
     }
 }
 
-fn base(r: &mut Random, schema: Schema) -> Base {
+fn base(r: &mut Random, schema: Schema) -> Sheets {
     let v = table_of(&schema).v();
     let numbers = numbers(r, v);
-    Base { schema, v, numbers }
+    Sheets { schema, v, numbers }
 }
 
 /// In turn for 4,096 privileges, for 30 at a privilege over 255 and at place V, and for a full table without counts.

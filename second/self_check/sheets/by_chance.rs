@@ -5,9 +5,10 @@ use super::super::expect;
 use super::super::literal;
 use crate::answers::{answer, Answer, Breach};
 use crate::conditions::verdict;
+use crate::making::bases::any_case;
 use crate::making::chance::Random;
-use crate::making::sheets::any_case;
-use crate::making::sums;
+use crate::making::sheets::Month;
+use crate::making::sums::Sheets;
 use crate::sheet::{add_sheets, month_sheet, Sheet};
 use crate::sheet_case::SheetCase;
 use crate::sum_case::SumCase;
@@ -111,7 +112,7 @@ fn number_of_month(case: &SheetCase) -> [usize; 2] {
 
 /// A call by chance, with faults or without; tells its number.
 fn self_month(r: &mut Random, is_spoilt: bool) -> usize {
-    let case = any_case(r, is_spoilt);
+    let case = any_case::<Month>(r, is_spoilt);
     let mut counts = case.counts.clone();
     let told = month_sheet(&case.words, case.roles, &case.marks, &mut counts);
     let [number, place] = number_of_month(&case);
@@ -179,7 +180,7 @@ fn turned(r: &mut Random, case: &SumCase) -> SumCase {
 
 /// A sum by chance, with faults or without; tells its number.
 fn self_sum(r: &mut Random, is_spoilt: bool) -> usize {
-    let case = sums::any_case(r, is_spoilt);
+    let case = any_case::<Sheets>(r, is_spoilt);
     let make = |case: &SumCase| {
         let mut counts = case.counts.clone();
         (add_sheets(&case.words, case.sheet, &mut counts, case.more, &case.more_counts), counts)

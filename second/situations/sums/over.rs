@@ -36,7 +36,7 @@ pub const SITUATIONS: &[Situation] = &[
     ("30 at privilege 0", |it| one_count(it, |k| k / COUNTS == 0)),
     ("30 at privilege 1", |it| one_count(it, |k| k / COUNTS == 1)),
     ("30 at the last privilege", |it| one_count(it, |k| k / COUNTS + 1 == it.v())),
-    ("30 by the last count of all", |it| one_count(it, |k| k + 1 == it.all())),
+    ("30 by the last count of all", |it| one_count(it, |k| k + 1 == it.all_counts())),
     ("30 by an allowed count", |it| one_count(it, |k| k % COUNTS == 0)),
     ("30 by a forbidden count", |it| one_count(it, |k| k % COUNTS == 1)),
     ("30 by an unset count", |it| one_count(it, |k| k % COUNTS == 2)),

@@ -23,7 +23,7 @@ fn given(it: &Sum, known: fn(&Sum, &Sheet) -> bool) -> [bool; 2] {
 fn roles(it: &Sum) -> [Option<u64>; 2] {
     [&it.case.counts, &it.case.more_counts].map(|counts| {
         let sum = |three: &[u32]| three.iter().map(|&count| count as u64).sum::<u64>();
-        let sums: Vec<u64> = counts[..it.all()].chunks(COUNTS).map(sum).collect();
+        let sums: Vec<u64> = counts[..it.all_counts()].chunks(COUNTS).map(sum).collect();
         sums.first().copied().filter(|first| sums.iter().all(|sum| sum == first))
     })
 }
@@ -40,13 +40,13 @@ fn are_of_roles(it: &Sum) -> bool {
 /// Whether each sheet is given as a call would have answered it.
 fn have_leaders(it: &Sum) -> bool {
     let SumCase { sheet, counts, more, more_counts, .. } = it.case;
-    let is_own = |sheet: &Sheet, counts: &[u32]| *sheet == done(sheet.figures, &counts[..it.all()]);
+    let is_own = |sheet: &Sheet, counts: &[u32]| *sheet == done(sheet.figures, &counts[..it.all_counts()]);
     is_own(sheet, counts) && is_own(more, more_counts)
 }
 
 /// Whether there are numbers behind all counts of each run, and their sum would run over.
 fn runs_over_behind(it: &Sum) -> bool {
-    let behind = [&it.case.counts, &it.case.more_counts].map(|run| run.get(it.all()).copied().unwrap_or(0));
+    let behind = [&it.case.counts, &it.case.more_counts].map(|run| run.get(it.all_counts()).copied().unwrap_or(0));
     behind[0].checked_add(behind[1]).is_none()
 }
 
@@ -86,7 +86,7 @@ pub const SITUATIONS: &[Situation] = &[
     ("numbers that are of no roles", |it| some(it, || it.v() > 1 && roles(it) == [None; 2])),
     ("both runs just as long as they must be", |it| some(it, || it.over() == [0, 0])),
     ("the first run longer, numbers other than 0 kept behind", |it| {
-        some(it, || it.over()[1] == 0 && it.case.counts[it.all()..].iter().any(|&number| number != 0))
+        some(it, || it.over()[1] == 0 && it.case.counts[it.all_counts()..].iter().any(|&number| number != 0))
     }),
     ("the second run longer", |it| some(it, || it.over()[0] == 0 && it.over()[1] > 0)),
     ("both runs longer", |it| some(it, || it.over()[0] > 0 && it.over()[1] > 0)),

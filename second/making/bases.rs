@@ -1,0 +1,101 @@
+// Cases that are made of a table and what belongs to it (request 12): in turn for each number of a table, with a large table, and for the
+// situation that came least often so far.
+
+use super::aims::Aims;
+use super::chance::Random;
+use super::damage::refused_words;
+use super::schemas::Schema;
+use crate::calls::TABLE;
+use crate::format::Format;
+use crate::situations::Situations;
+
+pub const FORMATS: [Format; 2] = [Format::One, Format::Two];
+
+/// The most words of a small table that is refused; longer ones are left to the other kinds of cases.
+const MOST_WORDS: usize = 128;
+
+/// What cases of a kind are made of.
+pub trait Base: Sized {
+    type Case: 'static;
+
+    /// One of so many cases is a large one.
+    const TURN: usize;
+
+    const USUAL: Situations<Self::Case>;
+
+    fn of(r: &mut Random, format: Format) -> Self;
+
+    fn schema(&self) -> &Schema;
+
+    fn sound_case(&self, r: &mut Random) -> Self::Case;
+
+    fn spoil(&self, r: &mut Random, case: &mut Self::Case);
+
+    fn with_words(case: Self::Case, words: Vec<u16>) -> Self::Case;
+
+    fn large_case(r: &mut Random, turn: usize) -> Self::Case;
+
+    /// Whether this situation is one of faults.
+    fn is_of_faults(situation: &str) -> bool;
+
+    /// Whether a case is in this situation.
+    fn is_in(situation: &'static str) -> impl Fn(&Self::Case) -> bool;
+
+    /// With faults, or without.
+    fn case(&self, r: &mut Random, is_spoilt: bool) -> Self::Case {
+        let mut case = self.sound_case(r);
+        if is_spoilt {
+            self.spoil(r, &mut case);
+        }
+        case
+    }
+}
+
+/// A small case, with faults or without.
+pub fn any_case<B: Base>(r: &mut Random, is_spoilt: bool) -> B::Case {
+    let format = r.pick(&FORMATS);
+    B::of(r, format).case(r, is_spoilt)
+}
+
+/// A table of this format that is refused with this number; in some cases with other faults too.
+fn refused_case<B: Base>(r: &mut Random, format: Format, number: usize) -> B::Case {
+    loop {
+        let base = B::of(r, format);
+        let words = refused_words(r, base.schema(), number).filter(|words| words.len() <= MOST_WORDS);
+        if let Some(words) = words {
+            let is_spoilt = r.one_in(2);
+            return B::with_words(base.case(r, is_spoilt), words);
+        }
+    }
+}
+
+/// A small case in this situation: of each base some faults are tried, where it is one of faults.
+fn aimed_case<B: Base>(r: &mut Random, situation: &'static str) -> B::Case {
+    let is_spoilt = B::is_of_faults(situation);
+    let (tries, meets) = (if is_spoilt { 4 } else { 1 }, B::is_in(situation));
+    loop {
+        let format = r.pick(&FORMATS);
+        let base = B::of(r, format);
+        if let Some(case) = (0..tries).map(|_| base.case(r, is_spoilt)).find(&meets) {
+            return case;
+        }
+    }
+}
+
+/// Of five cases one has a refused table, all numbers in turn and the formats in turn; the last of each turn is a large one, and each of the
+/// others is made for the situation that came least often so far.
+pub fn cases<B: Base>(seed: u64, count: usize) -> impl Iterator<Item = B::Case> {
+    let mut r = Random(seed);
+    let refusals = &TABLE[1..];
+    let mut aims = Aims::new(B::USUAL);
+    (0..count).map(move |k| {
+        let turn = k / 5;
+        let case = match k % 5 {
+            _ if k % B::TURN == B::TURN - 1 => B::large_case(&mut r, k / B::TURN),
+            0 => refused_case::<B>(&mut r, FORMATS[turn / refusals.len() % 2], refusals[turn % refusals.len()]),
+            _ => aimed_case::<B>(&mut r, aims.least()),
+        };
+        aims.add(&case);
+        case
+    })
+}
