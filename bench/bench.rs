@@ -1,4 +1,4 @@
-// Measures the fourteen calls of the proved library, all but `read_dtd` against the second program and `fast`. bench/run builds and runs it; modes:
+// Measures the sixteen calls of the proved library, all but `read_dtd` against the second program and `fast`. bench/run builds and runs it; modes:
 //   check               reads a stream of cases (second/README.md) and compares all makes
 //   time                nanoseconds a call
 //   growth              the same for tables that double
@@ -6,6 +6,8 @@
 //   roles               nanoseconds a role of complete_roles, and a single call on each role
 //   maps                nanoseconds a call over bit maps, and on the marks that they spell
 //   sheets              nanoseconds a role of month_sheet, and a single verdict on each role
+//   listings            nanoseconds a call of write_listing, of read_listing, and of read_dtd on the same text
+//   lines               nanoseconds a line of listings that double
 //   texts               nanoseconds a call of read_dtd, a line for each text
 //   lengths             nanoseconds a byte of texts that double
 //   documents FOLDER    writes a document for each text, for another parser
@@ -13,6 +15,7 @@
 //   shows               what is measured of complete_roles: an input of complete, and the number of roles
 //   months              what is measured of month_sheet: the input whose marks the roles have, and the number of roles
 //   tables              the inputs of `growth`
+//   lists               the inputs of `lines`, each with the number of its lines
 //   count MAKE CALL INPUT TIMES   makes a call on an input so many times, to be counted from outside; of complete_roles and month_sheet an input is
 //                       INPUT/ROLES, and CALL may be complete_each or judge_each, the single call on each of the roles
 
@@ -21,6 +24,8 @@ mod carry;
 mod dtd;
 mod fast;
 mod inputs;
+mod listed;
+mod listings;
 mod maps;
 mod plain;
 #[path = "../bindings/rust/src/border.rs"]
@@ -71,7 +76,7 @@ fn compare_on(case: &Case, call: Call, at: &str) {
 fn check() {
     let mut stream = Vec::new();
     std::io::stdin().read_to_end(&mut stream).unwrap_or_else(|_| fail("cannot read the input"));
-    let plain::Cases { policies, texts, shows, maps, moves, months, sums } = plain::cases_of(&stream);
+    let plain::Cases { policies, texts, shows, maps, moves, months, sums, writes, reads } = plain::cases_of(&stream);
     for (k, case) in policies.iter().enumerate() {
         CALLS.iter().for_each(|&call| compare_on(case, call, &format!("case {}", k)));
     }
@@ -91,6 +96,8 @@ fn check() {
     let (own_months, own_sums) = sheets::check(&months, &sums);
     println!("equal: {} months of roles, and {} measured ones", months.len(), own_months);
     println!("equal: {} sums of sheets, and {} measured ones", sums.len(), own_sums);
+    let own = listings::check(&writes, &reads);
+    println!("equal: {} listings written, {} read, and {} measured calls", writes.len(), reads.len(), own);
 }
 
 // ---------------------------------------------------------------- time
@@ -131,6 +138,7 @@ fn time() {
     maps::time();
     carry::time();
     sheets::time();
+    listings::time();
 }
 
 fn growth() {
@@ -189,6 +197,10 @@ fn stacks() {
     println!("| {} | {} |", carry::NAME, MAKES.each_ref().map(carry::most_stack).join(" | "));
     println!("| {} | {} |", sheets::MONTH, MAKES.each_ref().map(sheets::most_stack).join(" | "));
     println!("| {} | {} |", sheets::ADD, MAKES.each_ref().map(sheets::most_stack_of_sums).join(" | "));
+    for way in listings::WAYS {
+        let found = MAKES.each_ref().map(|make| listings::most_stack(make, way));
+        println!("| {} | {} |", way.name(), found.join(" | "));
+    }
     println!("| {} | {} |", dtd::NAME, MAKES.each_ref().map(dtd::most_stack).join(" | "));
 }
 
@@ -201,6 +213,7 @@ fn list() {
     maps::list();
     carry::list();
     sheets::list();
+    listings::list();
     dtd::list();
 }
 
@@ -240,6 +253,8 @@ fn main() {
         ["roles"] => roles::time_roles(),
         ["maps"] => maps::time_maps(),
         ["sheets"] => sheets::time_roles(),
+        ["listings"] => listings::time_listings(),
+        ["lines"] => listings::growth(),
         ["texts"] => dtd::time(),
         ["lengths"] => dtd::growth(),
         ["documents", folder] => dtd::documents(folder),
@@ -247,6 +262,7 @@ fn main() {
         ["shows"] => roles::list(),
         ["months"] => sheets::list_months(),
         ["tables"] => tables(),
+        ["lists"] => listings::list_growing(),
         ["count", make, dtd::NAME, text, times] => dtd::count(make, text, times),
         ["count", make, carry::NAME, revision, times] => carry::count(make, revision, times),
         ["count", make, roles::NAME, show, times] => roles::count(make, show, times),
@@ -254,13 +270,14 @@ fn main() {
         ["count", make, sheets::MONTH, month, times] => sheets::count(make, month, times),
         ["count", make, sheets::EACH, month, times] => sheets::count_each(make, month, times),
         ["count", make, sheets::ADD, sum, times] => sheets::count_sums(make, sum, times),
-        ["count", make, call, input, times] => match maps::call_of(call) {
-            Some(call) => maps::count(make, call, input, times),
-            None => count(make, call, input, times),
+        ["count", make, call, input, times] => match (maps::call_of(call), listings::way_of(call)) {
+            (Some(call), _) => maps::count(make, call, input, times),
+            (_, Some(way)) => listings::count(make, way, input, times),
+            _ => count(make, call, input, times),
         },
         _ => fail(
-            "modes: check | time | growth | stack | roles | maps | sheets | texts | lengths | documents FOLDER | list | shows | \
-             months | tables | count MAKE CALL INPUT TIMES",
+            "modes: check | time | growth | stack | roles | maps | sheets | listings | lines | texts | lengths | documents FOLDER | list | \
+             shows | months | tables | lists | count MAKE CALL INPUT TIMES",
         ),
     }
 }

@@ -1,5 +1,5 @@
 // The calls but `read_dtd` written by hand for speed, in plain Rust: what the proved code is measured against. fast/roles.rs has that on all roles,
-// fast/maps.rs those on bit maps, fast/carry.rs that on a revised schema, and fast/sheet.rs those on sheets.
+// fast/maps.rs those on bit maps, fast/carry.rs that on a revised schema, fast/sheet.rs those on sheets, and fast/listing.rs those on listings.
 // The steps are those of the proved code: a table check that puts the types in order, one bottom-up pass for whether something is forbidden below
 // each type, Warshall's closure for each choice, the chain of the first breach and a count of what is forbidden below its child, a completion that
 // opens downwards, a mend in ascending order with the closure made anew for each mark taken. What is done by hand: a table is accepted by a pass over
@@ -9,12 +9,14 @@
 // asked once a call, and what goes by it is compiled for each. Nothing is allocated, and nothing is unsafe.
 
 mod carry;
+mod listing;
 mod maps;
 mod roles;
 mod sheet;
 
 use crate::calls::Outcome;
 pub use carry::carry_marks;
+pub use listing::{read_listing, write_listing};
 pub use maps::{complete_maps, judge_maps, judge_mend_maps, mend_maps};
 pub use roles::complete_roles;
 pub use sheet::{add_sheets, month_sheet};

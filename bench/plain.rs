@@ -4,11 +4,12 @@ use crate::calls::{Case, Outcome, Sheet};
 use second::answers::{answer, Answer, Breach};
 use second::carry_case::CarryCase;
 use second::dtd_case::DtdCase;
+use second::listing_case::ListingCase;
 use second::maps_case::MapsCase;
 use second::roles_case::RolesCase;
 use second::sheet_case::SheetCase;
 use second::sum_case::SumCase;
-use second::{carrying, cases, completing, conditions, dtd, maps, mending, roles, sheet, table};
+use second::{carrying, cases, completing, conditions, dtd, listing, maps, mending, roles, sheet, table};
 
 fn outcome_of(outcome: second::answers::Outcome) -> Outcome {
     let Answer { number, place, count, breach } = answer(outcome);
@@ -115,6 +116,14 @@ pub fn add_sheets(
     sheet_of(told.unwrap_or_else(|refused| refused))
 }
 
+pub fn write_listing(text: &[u8], format: u16, marks: &[u8], out: &mut [u8]) -> Outcome {
+    outcome_of(listing::write_listing(text, format, marks, out))
+}
+
+pub fn read_listing(text: &[u8], format: u16, listing: &[u8], out: &mut [u8]) -> Outcome {
+    outcome_of(listing::read_listing(text, format, listing, out))
+}
+
 pub fn read_dtd(text: &[u8], out: &mut [u16]) -> Outcome {
     outcome_of(dtd::read_dtd(text, out))
 }
@@ -129,6 +138,8 @@ pub struct Cases {
     pub moves: Vec<CarryCase>,
     pub months: Vec<SheetCase>,
     pub sums: Vec<SumCase>,
+    pub writes: Vec<ListingCase>,
+    pub reads: Vec<ListingCase>,
 }
 
 pub fn cases_of(stream: &[u8]) -> Cases {
@@ -142,6 +153,8 @@ pub fn cases_of(stream: &[u8]) -> Cases {
             cases::Case::Carry(case) => all.moves.push(case),
             cases::Case::Sheet(case) => all.months.push(case),
             cases::Case::Sum(case) => all.sums.push(case),
+            cases::Case::Write(case) => all.writes.push(case),
+            cases::Case::Read(case) => all.reads.push(case),
         }
     }
     all

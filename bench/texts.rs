@@ -1,7 +1,9 @@
 // The DTD texts that are measured, most of them as long as a text may be: runs of one thing, tables as texts, groups as deep as they may be, and the
 // text that takes longest of those tried; and texts that double.
 
-use crate::inputs::{cyclic, decode, ordinary, sized, Type, CHOICE, EMPTY, ONE, SEQUENCE, TEXT};
+use crate::inputs::{
+    cyclic, decode, largest_table, ordinary, sized, Type, CHOICE, EMPTY, ONE, SEQUENCE, TEXT,
+};
 use second::dtd_case::DtdCase;
 
 /// The most bytes that a text may have.
@@ -25,15 +27,15 @@ const SYLLABLES: [&str; 16] = [
 ];
 
 /// The name of type t.
-type Name = fn(usize) -> String;
+pub type Name = fn(usize) -> String;
 
 /// Names of four bytes, most of which differ in the first.
-fn short(t: usize) -> String {
+pub fn short(t: usize) -> String {
     format!("{}{}", SYLLABLES[t % 16], SYLLABLES[t / 16])
 }
 
 /// Names of 32 bytes that differ in the last four.
-fn alike(t: usize) -> String {
+pub fn alike(t: usize) -> String {
     format!("{}{:04}", "a".repeat(28), t)
 }
 
@@ -86,9 +88,19 @@ fn blanked(text: String) -> String {
     text + &" ".repeat(room)
 }
 
+/// A table as text, with nothing besides.
+pub fn declared(words: &[u16], name: Name) -> String {
+    declarations(&decode(words), name, 0).concat()
+}
+
+/// The longest text of a table, by comments.
+pub fn longest(words: &[u16], name: Name) -> String {
+    commented(&declarations(&decode(words), name, 0), LONGEST)
+}
+
 /// The largest table: E 256, C 1,024, V 4,096. The types declared last are used most.
 fn largest() -> Vec<Type> {
-    decode(&sized(ONE, 256, 1024, 17))
+    decode(&largest_table(ONE))
 }
 
 /// The same, but the last name used is that of no type.
@@ -109,6 +121,9 @@ fn cyclic_below() -> Vec<Type> {
 
 // ---------------------------------------------------------------- other texts
 
+/// The sample schema.
+pub const SHOW: &str = include_str!("../samples/show.dtd");
+
 const SHORTEST: &str = "<!ELEMENT a EMPTY>";
 
 /// Rows in one another, sixteen deep, sequences and choices in turn: each has three names and then the next row, and the innermost a fourth name.
@@ -127,22 +142,27 @@ fn nested() -> String {
     (0..15).map(declaration).chain(leaves).collect()
 }
 
+/// A sequence of so many choices, each of 16 stars, all of which are made.
+pub fn of_made(choices: usize) -> String {
+    let choice = format!("({})", ["leaf*"; 16].join(" | "));
+    format!("<!ELEMENT root ({})>\n<!ELEMENT leaf (#PCDATA)>\n", vec![choice; choices].join(", "))
+}
+
 // ---------------------------------------------------------------- what is measured
 
 /// The last one takes longest of all that were tried. Of the most names that can be used each is looked up twice, and compared nearly to its end
 /// every time; the table is searched for a cycle up to its last type; and the room that is left is parentheses, which take longest to read.
 pub fn texts() -> Vec<Text> {
-    let of_table = |types: &[Type], name| commented(&declarations(types, name, 0), LONGEST);
     vec![
-        text("show", include_str!("../samples/show.dtd").to_string()),
-        text("ordinary", declarations(&decode(&ordinary(ONE)), short, 0).concat()),
+        text("show", SHOW.to_string()),
+        text("ordinary", declared(&ordinary(ONE), short)),
         text("comment", commented(&[SHORTEST.to_string()], LONGEST)),
         text("blanks", blanked(SHORTEST.to_string())),
         text("choice", format!("<!ELEMENT a (a{})>", "|a".repeat(32_760))),
         text("declarations", blanked(SHORTEST.repeat(3_640))),
-        text("largest", of_table(&largest(), short)),
-        text("alike", of_table(&largest(), alike)),
-        text("undeclared", of_table(&largest_undeclared(), alike)),
+        text("largest", longest(&largest_table(ONE), short)),
+        text("alike", longest(&largest_table(ONE), alike)),
+        text("undeclared", commented(&declarations(&largest_undeclared(), alike, 0), LONGEST)),
         text("nested", blanked(nested())),
         text("parentheses", blanked(declarations(&largest(), short, 15).concat())),
         text("cyclic-alike", blanked(declarations(&cyclic_below(), scattered, 9).concat())),

@@ -4,10 +4,9 @@
 #ifndef EXAMPLES_POLICY_H
 #define EXAMPLES_POLICY_H
 
-#include <stdint.h>
-#include <stdio.h>
-#include <stdlib.h>
 #include <string.h>
+
+#include "file.h"
 
 enum { MOST = 8192 };
 
@@ -17,21 +16,9 @@ struct policy {
     size_t words_length, marks_length;
 };
 
-static void stop(const char *file, const char *what)
-{
-    fprintf(stderr, "%s: %s\n", file, what);
-    exit(2);
-}
-
 static void read_policy(const char *file, struct policy *p)
 {
-    FILE *from = fopen(file, "rb");
-    if (!from)
-        stop(file, "cannot be read");
-    size_t length = fread(p->bytes, 1, sizeof p->bytes, from);
-    if (ferror(from))
-        stop(file, "cannot be read");
-    fclose(from);
+    size_t length = read_file(fopen(file, "rb"), file, p->bytes, sizeof p->bytes);
     if (length > MOST)
         stop(file, "over 8,192 bytes");
 

@@ -1,8 +1,9 @@
 /*
  * Finnedscarf: checks a schema table, reads one from DTD text, judges a policy of edits on it, completes the policy, or those of all roles of
  * a show at once, mends it, judges a mend that somebody proposes, carries its marks over when the schema is revised, counts the roles of a month on
- * a sheet, and adds two sheets. Judging, completing and mending one policy and judging a mend are there as well for one that is kept as two bit
- * maps. The fourteen calls are proved to answer as said here for every input; nothing checks this header against them but tests/store.
+ * a sheet, adds two sheets, and writes and reads a policy as a listing that people can mail. Judging, completing and mending one policy and judging
+ * a mend are there as well for one that is kept as two bit maps. The sixteen calls are proved to answer as said here for every input; nothing checks
+ * this header against them but tests/store.
  *
  * Build the library with `rt staticlib store` and link target/staticlib/libstore.a (x86-64 Linux). For C99 or C++11, or later.
  *
@@ -10,7 +11,7 @@
  *   Each run is a pointer to its first item and the number of its items. With length 0 the pointer may be any, also NULL; else it is never
  *   NULL. What a call may write, which is `numbers`, `out`, `lost`, `out_allowed`, `out_forbidden` and `counts`, overlaps no other run of the call;
  *   all other runs are only read. Nothing else may write to a lent run during the call. A call keeps nothing: no pointer, no state, no memory that
- *   must be freed. The number of a month's roles, `roles`, is no run, and sheets are handed over whole.
+ *   must be freed. The number of a month's roles, `roles`, and the format of a listing, `format`, are no runs, and sheets are handed over whole.
  *
  * The table
  *   A run of 16-bit words: 8 words of header, three words for each of the E types, then the C entries of the child list.
@@ -44,6 +45,18 @@
  *   Or two bit maps, of allowed and of forbidden privileges, each of V / 8 bytes, rounded up: 512 at most. In both, privilege p has bit p % 8 of
  *   byte p / 8, and bit 0 is the lowest. A privilege is allowed if its bit is set in the allowed map, forbidden if it is set in the forbidden
  *   map, and unset if it is set in neither; it is never set in both. The spare bits, those of the last byte behind the V privileges, are 0.
+ *
+ * The listing
+ *   A policy as text, over the table of a DTD text in format 1 or 2: a line for each set privilege, ascending. A line is `+` if it is allowed or `-`
+ *   if it is forbidden, the name of the type, and the edit, with single blanks between all parts and a newline (byte 10) behind the last. The edit
+ *   is `text` at a text; `insert` or `delete` and the child's name at a star; `replace` and two names at a choice, of the kind at position i and of
+ *   the kind at position j; and in format 2 `replace` and twice the child's name at a star. So there are lines such as
+ *     + job insert layer
+ *     - range text
+ *     + state replace draft held
+ *   and in format 2 also `+ job replace layer layer` and `- state replace draft draft`. A declared type has its name in the text, and a made type
+ *   `#` and its number in decimal without leading zeros: `#12`. Nothing else stands in a listing: no other blank, no empty line, no carriage return,
+ *   no comment. Without a line it is that of the policy in which all is unset. None is over 446,464 bytes, 4,096 lines of 109.
  */
 #ifndef FINNEDSCARF_H
 #define FINNEDSCARF_H
@@ -72,14 +85,15 @@ enum {
  * byte decides, then the lower number. The place is the lowest at which the check fails, 0 where none is named. Where all roles are completed at
  * once, 11 and 16 are numbers of a role and not of the call: they come after 12. Where a month's roles are counted, neither is a number. Over maps
  * 23 and 24 stand in place of 11. Where marks are carried over, 1 to 9 and 19 are the old table's; those of the new table are raised by 100, to 101
- * to 109 and 119, and come after 11.
+ * to 109 and 119, and come after 11. Where a listing is written or read, 1 is the format's and comes first of all, and of 25 and 26 the earlier line
+ * decides.
  */
 enum {
-    FINNEDSCARF_DONE = 0,             /* done; place: V for a table that is checked or read, else 0 */
+    FINNEDSCARF_DONE = 0,             /* done; place: V for a table that is checked or read, the length of a listing that is written, else 0 */
     FINNEDSCARF_GRAMMAR = 20,         /* not DTD text; place: the first byte that cannot stand there, or the length at an early end */
     FINNEDSCARF_LIMIT = 21,           /* ANY, mixed content with names, or a limit passed; place: byte, as said at the call */
     FINNEDSCARF_NAME = 22,            /* a name declared before, or used and never declared; place: its first byte */
-    FINNEDSCARF_FORMAT = 1,           /* under 8 words lent, or word 0 is neither 1 nor 2 */
+    FINNEDSCARF_FORMAT = 1,           /* under 8 words lent, or word 0 is neither 1 nor 2; of a listing: the format is neither 1 nor 2 */
     FINNEDSCARF_LAYOUT = 2,           /* words 1 to 6 are not as above, or the run lent isn't word 1 long */
     FINNEDSCARF_KIND = 3,             /* kind above 4; place: type */
     FINNEDSCARF_COUNT = 4,            /* child count wrong for the kind; place: type */
@@ -97,9 +111,11 @@ enum {
     FINNEDSCARF_NUMBERS_LENGTH = 17,  /* the list of new numbers is not as long as the old table has types */
     FINNEDSCARF_NEW_NUMBER = 18,      /* a new number that is neither 65535 nor below the new E, or that is not 65535 and an earlier type has too;
                                          place: old type */
-    FINNEDSCARF_SHORT = 12,           /* result shorter than V, of all roles than V for each, or than the table that is read; a result map shorter
-                                         than V / 8 bytes, rounded up; of marks carried over: `out` than the new V, or `lost` than the old V; of
-                                         sheets: a run of counts than 3 * V */
+    FINNEDSCARF_LINE = 25,            /* a line of a listing that is not as above, also a last one without its newline; place: its first byte */
+    FINNEDSCARF_ORDER = 26,           /* a line of a listing whose privilege is not above that of the line before; place: its first byte */
+    FINNEDSCARF_SHORT = 12,           /* result shorter than V, of all roles than V for each, than the table that is read, or than the listing that
+                                         is written; a result map shorter than V / 8 bytes, rounded up; of marks carried over: `out` than the new V,
+                                         or `lost` than the old V; of sheets: a run of counts than 3 * V */
     FINNEDSCARF_SHEET_REFUSED = 29,   /* a sheet that is to be added was itself refused: its number is not 0; place: 0 if `sheet` was, else 1 */
     FINNEDSCARF_SUM = 30,             /* a sum that 32 bits do not hold; place: the lowest privilege with such a sum among its three counts, or V if
                                          only numbers of roles have one */
@@ -284,6 +300,24 @@ finnedscarf_sheet finnedscarf_add_sheets(const uint16_t *words, size_t words_len
                                          size_t more_counts_length);
 
 /*
+ * Writes a policy as a listing, over the table of DTD text in format 1 or 2: 0 with the listing's length as place and the listing in the first bytes
+ * of `out`. Or 1 if the format is neither; or what finnedscarf_read_dtd answers for the text, with V by the format: 20 to 22, 4, 7, 19, 8 or 9; or 10
+ * or 11 for the marks; or 12 if `out` is shorter than the listing, in this order. 446,464 bytes hold every listing. A refusal leaves `out` as it was;
+ * else its bytes behind the listing are kept. What is written is read back to the same marks by finnedscarf_read_listing.
+ */
+finnedscarf_outcome finnedscarf_write_listing(const uint8_t *text, size_t text_length, uint16_t format, const uint8_t *marks,
+                                              size_t marks_length, uint8_t *out, size_t out_length);
+
+/*
+ * Reads a listing, over the table of DTD text in format 1 or 2: 0 with the policy's marks in the first V bytes of `out`, unset where the listing has
+ * no line. Or 1 if the format is neither; or what finnedscarf_read_dtd answers for the text, with V by the format: 20 to 22, 4, 7, 19, 8 or 9; or 25
+ * or 26 for the first line at fault; or 12 if `out` is shorter than V, in this order. 4,096 bytes hold every policy. A refusal leaves `out` as it
+ * was; else its bytes from V on are kept. The marks that are read are written to the same listing by finnedscarf_write_listing.
+ */
+finnedscarf_outcome finnedscarf_read_listing(const uint8_t *text, size_t text_length, uint16_t format, const uint8_t *listing,
+                                             size_t listing_length, uint8_t *out, size_t out_length);
+
+/*
  * The library itself never gets NULL, not even with length 0. So the names above reach the functions below, in a call and where an
  * address is taken: each makes the exported call of its name, and lends the address of an item of its own for an empty run.
  */
@@ -424,6 +458,24 @@ static inline finnedscarf_sheet finnedscarf_add_sheets_lent(const uint16_t *word
                                   FINNEDSCARF_LENT(more_counts, no_number));
 }
 
+static inline finnedscarf_outcome finnedscarf_write_listing_lent(const uint8_t *text, size_t text_length, uint16_t format,
+                                                                 const uint8_t *marks, size_t marks_length, uint8_t *out,
+                                                                 size_t out_length)
+{
+    uint8_t no_byte = 0;
+    return finnedscarf_write_listing(FINNEDSCARF_LENT(text, no_byte), format, FINNEDSCARF_LENT(marks, no_byte),
+                                     FINNEDSCARF_LENT(out, no_byte));
+}
+
+static inline finnedscarf_outcome finnedscarf_read_listing_lent(const uint8_t *text, size_t text_length, uint16_t format,
+                                                                const uint8_t *listing, size_t listing_length, uint8_t *out,
+                                                                size_t out_length)
+{
+    uint8_t no_byte = 0;
+    return finnedscarf_read_listing(FINNEDSCARF_LENT(text, no_byte), format, FINNEDSCARF_LENT(listing, no_byte),
+                                    FINNEDSCARF_LENT(out, no_byte));
+}
+
 #undef FINNEDSCARF_LENT
 
 #define finnedscarf_check_table finnedscarf_check_table_lent
@@ -440,6 +492,8 @@ static inline finnedscarf_sheet finnedscarf_add_sheets_lent(const uint16_t *word
 #define finnedscarf_carry_marks finnedscarf_carry_marks_lent
 #define finnedscarf_month_sheet finnedscarf_month_sheet_lent
 #define finnedscarf_add_sheets finnedscarf_add_sheets_lent
+#define finnedscarf_write_listing finnedscarf_write_listing_lent
+#define finnedscarf_read_listing finnedscarf_read_listing_lent
 
 #ifdef __cplusplus
 }

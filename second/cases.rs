@@ -5,6 +5,7 @@ use crate::carry_case::{self, CarryCase};
 use crate::dtd_case::{self, DtdCase};
 use crate::fail;
 use crate::format::Format;
+use crate::listing_case::{self, ListingCase};
 use crate::maps_case::{self, MapsCase};
 use crate::policy_case::{self, PolicyCase};
 use crate::roles_case::{self, RolesCase};
@@ -20,6 +21,8 @@ pub enum Case {
     Carry(CarryCase),
     Sheet(SheetCase),
     Sum(SumCase),
+    Write(ListingCase),
+    Read(ListingCase),
 }
 
 impl Case {
@@ -32,6 +35,8 @@ impl Case {
             carry_case::KIND => Case::Carry(CarryCase::read(stream)),
             sheet_case::KIND => Case::Sheet(SheetCase::read(stream)),
             sum_case::KIND => Case::Sum(SumCase::read(stream)),
+            listing_case::WRITE => Case::Write(ListingCase::read(stream)),
+            listing_case::READ => Case::Read(ListingCase::read(stream)),
             kind => fail(&format!("there is no kind {}", kind)),
         }
     }
@@ -66,6 +71,14 @@ impl Case {
                 stream.push(sum_case::KIND);
                 case.write(stream);
             }
+            Case::Write(case) => {
+                stream.push(listing_case::WRITE);
+                case.write(stream);
+            }
+            Case::Read(case) => {
+                stream.push(listing_case::READ);
+                case.write(stream);
+            }
         }
     }
 
@@ -73,7 +86,7 @@ impl Case {
     pub fn has(&self, format: Format) -> bool {
         match self {
             Case::Policy(case) => case.has(format),
-            Case::Dtd(_) => false,
+            Case::Dtd(_) | Case::Write(_) | Case::Read(_) => false,
             Case::Roles(case) => case.has(format),
             Case::Maps(case) => case.has(format),
             Case::Carry(case) => case.has(format),
@@ -100,6 +113,8 @@ impl Case {
             Case::Carry(case) => tell(&carry_case::CALLS, case),
             Case::Sheet(case) => tell(&sheet_case::CALLS, case),
             Case::Sum(case) => tell(&sum_case::CALLS, case),
+            Case::Write(case) => tell(&listing_case::WRITING, case),
+            Case::Read(case) => tell(&listing_case::READING, case),
         }
     }
 }

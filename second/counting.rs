@@ -1,4 +1,4 @@
-// How often each call gave each number and each condition, and how often each situation of requests 1, 5 to 9 and 12 came.
+// How often each call gave each number and each condition, and how often each situation of requests 1, 5 to 10 and 12 came.
 
 use crate::answers::Answer;
 use crate::calls::{Call, Told, NEW_TABLE, POLICY, TABLE};
@@ -6,19 +6,20 @@ use crate::carry_case::{self, CarryCase};
 use crate::cases::{read_cases, Case};
 use crate::dtd_case;
 use crate::format::Format;
+use crate::listing_case::{self, ListingCase};
 use crate::maps_case::{self, MapsCase};
 use crate::policy_case::{self, PolicyCase};
 use crate::roles_case::{self, RolesCase};
 use crate::sheet_case::{self, SheetCase};
 use crate::situations::{
-    carrying, maps, sheets, sums, Situations, OF_CHAINS, OF_COUNTS, OF_FORMAT_TWO, OF_ROLES,
+    carrying, maps, reading, sheets, sums, writing, Situations, OF_CHAINS, OF_COUNTS, OF_FORMAT_TWO, OF_ROLES,
 };
 use crate::sum_case::{self, SumCase};
 use std::collections::BTreeMap;
 
 /// The numbers in the order of the checks.
 const NUMBERS: &[&[usize]] =
-    &[&[20, 21, 22], TABLE, POLICY, &[23, 24], NEW_TABLE, &[17, 18], &[12, 13, 14, 15, 16, 29, 30]];
+    &[&[20, 21, 22], TABLE, POLICY, &[23, 24, 25, 26], NEW_TABLE, &[17, 18], &[12, 13, 14, 15, 16, 29, 30]];
 
 const CONDITIONS: [usize; 3] = [1, 2, 3];
 
@@ -117,6 +118,7 @@ impl Counts {
         rows.extend(carry_case::CALLS.iter().map(Row::of));
         rows.extend(sheet_case::CALLS.iter().map(Row::of));
         rows.extend(sum_case::CALLS.iter().map(Row::of));
+        rows.extend(listing_case::WRITING.iter().chain(&listing_case::READING).map(Row::of));
         Counts { rows, total: 0 }
     }
 
@@ -194,6 +196,10 @@ pub struct Overview {
     large_sheets: Found<SheetCase>,
     sums: Found<SumCase>,
     large_sums: Found<SumCase>,
+    writing: Found<ListingCase>,
+    large_writing: Found<ListingCase>,
+    reading: Found<ListingCase>,
+    large_reading: Found<ListingCase>,
 }
 
 impl Overview {
@@ -205,6 +211,8 @@ impl Overview {
         let [carrying, large_carrying] = [carrying::USUAL, carrying::LARGE].map(Found::new);
         let [sheets, large_sheets] = [sheets::USUAL, sheets::LARGE].map(Found::new);
         let [sums, large_sums] = [sums::USUAL, sums::LARGE].map(Found::new);
+        let [writing, large_writing] = [writing::USUAL, writing::LARGE].map(Found::new);
+        let [reading, large_reading] = [reading::USUAL, reading::LARGE].map(Found::new);
         let mut overview = Overview {
             all,
             of_two,
@@ -220,6 +228,10 @@ impl Overview {
             large_sheets,
             sums,
             large_sums,
+            writing,
+            large_writing,
+            reading,
+            large_reading,
         };
         cases.for_each(|case| overview.add(&case));
         overview
@@ -240,6 +252,8 @@ impl Overview {
             Case::Carry(carry) => self.add_carry(carry),
             Case::Sheet(sheet) => self.add_sheet(sheet),
             Case::Sum(sum) => self.add_sum(sum),
+            Case::Write(write) => self.add_write(write),
+            Case::Read(read) => self.add_read(read),
         }
     }
 
@@ -267,6 +281,16 @@ impl Overview {
     fn add_sum(&mut self, sum: &SumCase) {
         self.sums.add(sum);
         self.large_sums.add(sum);
+    }
+
+    fn add_write(&mut self, write: &ListingCase) {
+        self.writing.add(write);
+        self.large_writing.add(write);
+    }
+
+    fn add_read(&mut self, read: &ListingCase) {
+        self.reading.add(read);
+        self.large_reading.add(read);
     }
 
     /// The fewest of the numbers and conditions that the calls made can give.
@@ -324,6 +348,16 @@ impl Overview {
         self.large_sheets.fewest().min(self.large_sums.fewest())
     }
 
+    /// The fewest of the situations of request 10: of writing and of reading.
+    pub fn fewest_of_listings(&self) -> usize {
+        self.writing.fewest().min(self.reading.fewest())
+    }
+
+    /// The fewest of those with long listings or with texts as large as there may be.
+    pub fn fewest_of_large_listings(&self) -> usize {
+        self.large_writing.fewest().min(self.large_reading.fewest())
+    }
+
     fn text(&self) -> String {
         let tables = format!("{}\nof format 2\n{}", self.all.text(), self.of_two.text());
         let of_policies = [&self.format_two, &self.counts, &self.chains].map(Found::text);
@@ -331,7 +365,10 @@ impl Overview {
         let of_carrying = [&self.carrying, &self.large_carrying].map(Found::text);
         let of_sheets = [&self.sheets, &self.large_sheets].map(Found::text);
         let of_sums = [&self.sums, &self.large_sums].map(Found::text);
-        let all = [&of_policies[..], &[self.roles.text()], &of_maps, &of_carrying, &of_sheets, &of_sums];
+        let of_listings =
+            [&self.writing, &self.large_writing, &self.reading, &self.large_reading].map(Found::text);
+        let of_tables = [&of_maps[..], &of_carrying, &of_sheets, &of_sums].concat();
+        let all = [&of_policies[..], &[self.roles.text()], &of_tables, &of_listings];
         format!("{}\n{}", tables, all.concat().join("\n"))
     }
 }

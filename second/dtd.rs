@@ -22,16 +22,21 @@ use standing::Standing;
 use trees::declarations;
 use types::Rules;
 
-/// What a text declares: its types, of which the first so many are the declared ones.
+/// What a text declares: its types, of which the first ones are the declared ones and have these names.
 pub struct Declared {
-    pub count: usize,
+    pub names: Vec<Vec<u8>>,
     pub types: Vec<Type>,
 }
 
 impl Declared {
-    /// The table, of format 1.
-    pub fn words(&self) -> Vec<u16> {
-        encode(Format::One, &self.types)
+    /// How many types are declared; the others are made.
+    pub fn count(&self) -> usize {
+        self.names.len()
+    }
+
+    /// The table.
+    pub fn words(&self, format: Format) -> Vec<u16> {
+        encode(format, &self.types)
     }
 }
 
@@ -45,18 +50,26 @@ pub fn declared(text: &[u8]) -> Result<Declared, Fault> {
     refuse(at_length(Reason::ManyTypes).filter(|_| rules.count() > MOST_TYPES))?;
     refuse(at_length(Reason::ManyEntries).filter(|_| rules.entries() > MOST_ENTRIES))?;
     refuse(first_wrong(&declarations, &rules.used()))?;
-    Ok(Declared { count: declarations.len(), types: rules.types(&declarations) })
+    let names = declarations.iter().map(|declaration| declaration.name.bytes.clone()).collect();
+    Ok(Declared { names, types: rules.types(&declarations) })
 }
 
 fn refuse(fault: Option<Fault>) -> Result<(), Fault> {
     fault.map_or(Ok(()), Err)
 }
 
-/// 20 to 22, then the table's own numbers, then 12; done, the table stands in `out`, and V is the place.
+/// The same with the refusal as an answer.
+pub fn check_text(text: &[u8]) -> Result<Declared, Answer> {
+    declared(text).map_err(|fault| Answer {
+        number: fault.reason.number(),
+        place: fault.place,
+        ..Answer::default()
+    })
+}
+
+/// 20 to 22, then the table's own numbers, then 12; done, the table of format 1 stands in `out`, and V is the place.
 pub fn read_dtd(text: &[u8], out: &mut [u16]) -> Outcome {
-    let refusal =
-        |fault: Fault| Answer { number: fault.reason.number(), place: fault.place, ..Answer::default() };
-    let words = declared(text).map_err(refusal)?.words();
+    let words = check_text(text)?.words(Format::One);
     let table = check_table(&words)?;
     refuse_if(12, out.len() < words.len())?;
     out[..words.len()].copy_from_slice(&words);

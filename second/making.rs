@@ -9,6 +9,7 @@ pub mod cycles;
 mod damage;
 pub mod dtds;
 pub mod files;
+pub mod listings;
 pub mod maps;
 pub mod policies;
 pub mod roles;
@@ -25,6 +26,8 @@ use crate::table::{check_table, MOST_PRIVILEGES};
 use chance::Random;
 use cycles::long_cycle;
 use damage::spoil;
+use listings::reading::Reading;
+use listings::writing::Writing;
 use policies::{lent, policy, proposal};
 use schemas::{schema, Schema};
 use shapes::{full_ladder, large, long_chain};
@@ -88,10 +91,11 @@ fn policies(seed: u64, count: usize) -> impl Iterator<Item = PolicyCase> {
 }
 
 /// So many policies of format 1, then so many DTD texts, then so many policies of format 2 or of another word 0, then so many calls on roles,
-/// then so many on bit maps, then so many that carry marks to a new table, then so many sheets of roles, and then so many sums of sheets.
+/// then so many on bit maps, then so many that carry marks to a new table, then so many sheets of roles, then so many sums of sheets, then so
+/// many listings that are written, and then so many that are read.
 pub fn cases(
     seed: u64,
-    [count, dtds, second_format, roles, maps, carry, sheets, sums]: [usize; 8],
+    [count, dtds, second_format, roles, maps, carry, sheets, sums, writes, reads]: [usize; 10],
 ) -> impl Iterator<Item = Case> {
     let of_one = policies(seed, count).map(Case::Policy).chain(dtds::cases(seed, dtds).map(Case::Dtd));
     let of_two = second_format::cases(seed, second_format).map(Case::Policy);
@@ -99,5 +103,7 @@ pub fn cases(
     let carry = carrying::cases(seed, carry).map(Case::Carry);
     let (sheets, sums) = (bases::cases::<Month>(seed, sheets), bases::cases::<Sheets>(seed, sums));
     let of_policies = of_one.chain(of_two).chain(roles.map(Case::Roles)).chain(maps.map(Case::Maps));
-    of_policies.chain(carry).chain(sheets.map(Case::Sheet)).chain(sums.map(Case::Sum))
+    let of_tables = of_policies.chain(carry).chain(sheets.map(Case::Sheet)).chain(sums.map(Case::Sum));
+    let (writes, reads) = (bases::cases::<Writing>(seed, writes), bases::cases::<Reading>(seed, reads));
+    of_tables.chain(writes.map(Case::Write)).chain(reads.map(Case::Read))
 }

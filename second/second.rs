@@ -16,6 +16,8 @@ mod files;
 mod forbidden_below;
 pub mod format;
 mod judge;
+pub mod listing;
+pub mod listing_case;
 pub mod making;
 pub mod maps;
 pub mod maps_case;
@@ -46,7 +48,7 @@ use std::io::{Read, Write};
 use table::{HEADER, MOST_ENTRIES, MOST_TYPES, RECORD};
 
 const USAGE: &str =
-    "modes: judge | cases SEED COUNT DTDS SECOND_FORMAT ROLES MAPS CARRY SHEETS SUMS | answers | count \
+    "modes: judge | cases SEED COUNT DTDS SECOND_FORMAT ROLES MAPS CARRY SHEETS SUMS WRITES READS | answers | count \
     | files FOLDER | random SEED COUNT SECOND_FORMAT FILE... | reports | count files | dtd \
     | count dtds SEED COUNT | documents SEED COUNT FOLDER | texts SEED COUNT FOLDER | self";
 

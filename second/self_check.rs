@@ -6,6 +6,7 @@ mod counts;
 pub mod dtds;
 mod every;
 mod forbidden_below;
+mod listings;
 mod literal;
 mod maps;
 mod policies;
@@ -27,6 +28,7 @@ use counts::self_counts;
 use dtds::self_dtds;
 use every::self_every;
 use forbidden_below::self_forbidden_below;
+use listings::self_listings;
 use maps::self_maps;
 use policies::{self_policy, self_renumbered, small_policy, unset};
 use roles::self_roles;
@@ -110,6 +112,7 @@ pub fn self_check(seed: u64, count: usize) -> String {
         self_maps(seed, count),
         self_carrying(seed, count),
         self_sheets(seed, count),
+        self_listings(seed, count),
         self_dtds(seed, count),
     ]
     .concat()

@@ -1,4 +1,4 @@
-// What requests 1, 5 to 9 and 12 bring besides numbers and conditions: the situations that a case can be in, by name.
+// What requests 1, 5 to 10 and 12 bring besides numbers and conditions: the situations that a case can be in, by name.
 
 mod bits;
 mod breaches;
@@ -8,18 +8,23 @@ mod completions;
 mod counted;
 mod counts;
 mod leading;
+mod listed;
+pub mod listing;
 pub mod maps;
 mod mends;
 mod month;
 mod moves;
 mod policy;
 mod proposals;
+pub mod reading;
 pub mod roles;
 pub mod sheets;
 mod show;
 pub mod sum;
 pub mod sums;
 mod tables;
+mod texts;
+pub mod writing;
 
 use crate::policy_case::PolicyCase;
 use crate::roles_case::RolesCase;

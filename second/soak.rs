@@ -1,6 +1,6 @@
 // Holds the exported library to the second program on fresh cases: each call, all of its answer, and every lent run afterwards.
-// second/soak builds it and runs it with SEED, COUNT, DTDS, SECOND_FORMAT, ROLES, MAPS, CARRY, SHEETS, SUMS and the folder where a case that
-// differs is kept.
+// second/soak builds it and runs it with SEED, COUNT, DTDS, SECOND_FORMAT, ROLES, MAPS, CARRY, SHEETS, SUMS, WRITES, READS and the folder where
+// a case that differs is kept.
 
 #[path = "../bindings/rust/src/border.rs"]
 mod border;
@@ -12,6 +12,7 @@ use second::cases::{write_cases, Case};
 use second::chain::Chain;
 use second::counting::Counts;
 use second::dtd_case::{self, DtdCase};
+use second::listing_case::{self, ListingCase};
 use second::making;
 use second::maps_case::{self, MapsCase};
 use second::policy_case::{self, PolicyCase};
@@ -110,6 +111,16 @@ const SUMS: [fn(&SumCase) -> Told; sum_case::CALLS.len()] = [|case| {
     })
 }];
 
+/// The same on cases of kind 7.
+const WRITES: [fn(&ListingCase) -> Told; listing_case::WRITING.len()] = [|case| {
+    case.writing(|text, format, marks, out| outcome_of(border::write_listing(text, format, marks, out)))
+}];
+
+/// The same on cases of kind 8.
+const READS: [fn(&ListingCase) -> Told; listing_case::READING.len()] = [|case| {
+    case.writing(|text, format, listing, out| outcome_of(border::read_listing(text, format, listing, out)))
+}];
+
 /// Makes each call on a case by both and counts the answers, up to the first difference.
 fn compare<C: Clone + PartialEq>(
     calls: &[Call<C>],
@@ -140,6 +151,8 @@ fn compare_case(case: &Case, counts: &mut Counts) -> Result<(), String> {
         Case::Carry(case) => compare(&carry_case::CALLS, &CARRY, case, counts),
         Case::Sheet(case) => compare(&sheet_case::CALLS, &SHEETS, case, counts),
         Case::Sum(case) => compare(&sum_case::CALLS, &SUMS, case, counts),
+        Case::Write(case) => compare(&listing_case::WRITING, &WRITES, case, counts),
+        Case::Read(case) => compare(&listing_case::READING, &READS, case, counts),
     }
 }
 
@@ -160,7 +173,7 @@ fn keep(case: Case, path: &str) -> String {
     }
 }
 
-fn soak(seed: u64, sizes: [usize; 8], folder: &str) {
+fn soak(seed: u64, sizes: [usize; 10], folder: &str) {
     let mut counts = Counts::new();
     for (k, case) in making::cases(seed, sizes).enumerate() {
         if let Err(difference) = compare_case(&case, &mut counts) {
@@ -177,10 +190,10 @@ fn main() {
     let arguments: Vec<String> = std::env::args().skip(1).collect();
     let arguments: Vec<&str> = arguments.iter().map(String::as_str).collect();
     match arguments[..] {
-        [seed, count, dtds, second_format, roles, maps, carry, sheets, sums, folder] => {
-            let sizes = [count, dtds, second_format, roles, maps, carry, sheets, sums];
+        [seed, count, dtds, second_format, roles, maps, carry, sheets, sums, writes, reads, folder] => {
+            let sizes = [count, dtds, second_format, roles, maps, carry, sheets, sums, writes, reads];
             soak(number(seed), sizes.map(|text| number(text) as usize), folder)
         }
-        _ => fail("soak SEED COUNT DTDS SECOND_FORMAT ROLES MAPS CARRY SHEETS SUMS FOLDER"),
+        _ => fail("soak SEED COUNT DTDS SECOND_FORMAT ROLES MAPS CARRY SHEETS SUMS WRITES READS FOLDER"),
     }
 }

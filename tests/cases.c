@@ -9,7 +9,7 @@
 
 #include "finnedscarf.h"
 
-enum { MOST = 66560 };
+enum { MOST = 98304 };
 
 static const char *number_text(size_t number)
 {
@@ -44,6 +44,8 @@ static const char *number_text(size_t number)
     case FINNEDSCARF_NEW_TABLE + FINNEDSCARF_TOTAL: return "109";
     case FINNEDSCARF_NUMBERS_LENGTH: return "17";
     case FINNEDSCARF_NEW_NUMBER: return "18";
+    case FINNEDSCARF_LINE: return "25";
+    case FINNEDSCARF_ORDER: return "26";
     case FINNEDSCARF_SHORT: return "12";
     case FINNEDSCARF_SHEET_REFUSED: return "29";
     case FINNEDSCARF_SUM: return "30";
@@ -369,6 +371,42 @@ static void run_add_sheets(size_t number)
     put_sheet(number, "add_sheets", told, counts, n);
 }
 
+/* The format of a listing is no run: it has no length. One over 65,535 is an error. */
+static uint16_t next_format(void)
+{
+    uint32_t format = next_number();
+    if (format > 65535)
+        exit(2);
+    return (uint16_t)format;
+}
+
+/* The call on a case of kind 7. */
+static void run_write_listing(size_t number)
+{
+    static uint8_t text[MOST], marks[MOST], out[MOST];
+    size_t t = read_bytes(text);
+    uint16_t format = next_format();
+    size_t m = read_bytes(marks);
+    size_t n = read_bytes(out);
+
+    put_outcome(number, "write_listing", finnedscarf_write_listing(text, t, format, marks, m, out, n));
+    put_bytes(out, n);
+    putchar('\n');
+}
+
+/* The call on a case of kind 8. */
+static void run_read_listing(size_t number)
+{
+    static uint8_t text[MOST], listing[MOST], out[MOST];
+    size_t t = read_bytes(text);
+    uint16_t format = next_format();
+    size_t l = read_bytes(listing);
+    size_t n = read_bytes(out);
+
+    finnedscarf_outcome told = finnedscarf_read_listing(text, t, format, listing, l, out, n);
+    put_written(number, "read_listing", told, out, n);
+}
+
 int main(void)
 {
     for (size_t number = 0; more(); number++) {
@@ -380,6 +418,8 @@ int main(void)
         case 4: run_carry(number); break;
         case 5: run_sheet(number); break;
         case 6: run_add_sheets(number); break;
+        case 7: run_write_listing(number); break;
+        case 8: run_read_listing(number); break;
         default: exit(2);
         }
     }

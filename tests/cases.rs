@@ -7,8 +7,8 @@
 mod border;
 
 use finnedscarf::{add_sheets, carry_marks, check_table, complete, complete_maps, complete_roles, judge_maps, judge_mend, judge_mend_maps};
-use finnedscarf::{judge_policy, mend, mend_maps, month_sheet, read_dtd, Breach, Condition, Maps, MapsMut, Refusal, RoleRefusal, Roles, Sheet};
-use finnedscarf::{ALLOWED, FORBIDDEN, UNSET};
+use finnedscarf::{judge_policy, mend, mend_maps, month_sheet, read_dtd, read_listing, write_listing};
+use finnedscarf::{Breach, Condition, Maps, MapsMut, Refusal, RoleRefusal, Roles, Sheet, ALLOWED, FORBIDDEN, UNSET};
 use std::io::{self, BufWriter, Read, Write};
 
 struct Stream(Vec<u8>, usize);
@@ -48,6 +48,10 @@ impl Stream {
         let [clean, insert_delete, chain, cycle, refused, leader_count] = [(); 6].map(|()| self.number());
         let leaders = [(); 3].map(|()| self.number() as usize);
         border::Sheet { number, place, clean, insert_delete, chain, cycle, refused, leader_count, leaders }
+    }
+
+    fn format(&mut self) -> u16 {
+        self.number().try_into().expect("a format of at most 65,535")
     }
 
     fn maps(&mut self) -> TwoMaps {
@@ -270,6 +274,22 @@ fn add_sheets_lines(stream: &mut Stream) -> Vec<String> {
     vec![sheet_text("add_sheets", answer, &counts)]
 }
 
+/// The call on a case of kind 7.
+fn write_listing_lines(stream: &mut Stream) -> Vec<String> {
+    let (text, format, marks) = (stream.bytes(), stream.format(), stream.bytes());
+    let mut out = stream.bytes();
+    let answer = write_listing(&text, format, &marks, &mut out).map(|place| Done { place, ..Done::default() });
+    vec![line("write_listing", answer) + " " + &bytes_text(&out)]
+}
+
+/// The call on a case of kind 8.
+fn read_listing_lines(stream: &mut Stream) -> Vec<String> {
+    let (text, format, listing) = (stream.bytes(), stream.format(), stream.bytes());
+    let mut out = stream.bytes();
+    let answer = read_listing(&text, format, &listing, &mut out).map(|()| Done::default());
+    vec![line("read_listing", answer) + " " + &run_text(&out)]
+}
+
 fn main() -> io::Result<()> {
     let mut stream = Stream(Vec::new(), 0);
     io::stdin().read_to_end(&mut stream.0)?;
@@ -284,6 +304,8 @@ fn main() -> io::Result<()> {
             4 => carry_lines(&mut stream),
             5 => sheet_lines(&mut stream),
             6 => add_sheets_lines(&mut stream),
+            7 => write_listing_lines(&mut stream),
+            8 => read_listing_lines(&mut stream),
             kind => panic!("there is no kind {kind}"),
         };
         for line in lines {

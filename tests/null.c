@@ -99,6 +99,13 @@ SHEET_BORDER(finnedscarf_add_sheets,
              (const uint16_t *words, size_t words_length, finnedscarf_sheet sheet, uint32_t *counts, size_t counts_length,
               finnedscarf_sheet more, const uint32_t *more_counts, size_t more_counts_length),
              (words, words_length, sheet, counts, counts_length, more, more_counts, more_counts_length), words && counts && more_counts)
+BORDER(finnedscarf_write_listing,
+       (const uint8_t *text, size_t text_length, uint16_t format, const uint8_t *marks, size_t marks_length, uint8_t *out, size_t out_length),
+       (text, text_length, format, marks, marks_length, out, out_length), text && marks && out)
+BORDER(finnedscarf_read_listing,
+       (const uint8_t *text, size_t text_length, uint16_t format, const uint8_t *listing, size_t listing_length, uint8_t *out,
+        size_t out_length),
+       (text, text_length, format, listing, listing_length, out, out_length), text && listing && out)
 #ifdef __cplusplus
 }
 #endif
@@ -128,6 +135,9 @@ static finnedscarf_sheet (*const month_sheet)(const uint16_t *, size_t, uint32_t
     &finnedscarf_month_sheet;
 static finnedscarf_sheet (*const add_sheets)(const uint16_t *, size_t, finnedscarf_sheet, uint32_t *, size_t, finnedscarf_sheet,
                                              const uint32_t *, size_t) = finnedscarf_add_sheets;
+typedef finnedscarf_outcome lists(const uint8_t *, size_t, uint16_t, const uint8_t *, size_t, uint8_t *, size_t);
+static lists *const write_listing = &finnedscarf_write_listing;
+static lists *const read_listing = finnedscarf_read_listing;
 
 /* Two tables of one type, which is empty and has no privilege, or a text and has one: V is the table's place here. The same as DTD text. */
 static const uint16_t tables[2][11] = {{1, 11, 1, 0, 8, 0, 11, 0, 0, 0, 0}, {1, 11, 1, 0, 8, 0, 11, 1, 1, 0, 0}};
@@ -534,6 +544,91 @@ static void try_add(int address, size_t v, int empty, struct runs none, uint32_t
     hold_sheet("add_sheets", address, v, empty, told, counts, sum_number(v, empty), 10, counted);
 }
 
+/* The runs of writing or reading a listing that are empty, as a sum: the text, the marks or the listing, and the result. */
+enum { GIVEN = 2, RESULT = 4 };
+
+enum { WRITE_LISTING, READ_LISTING, LISTING_CALLS };
+
+/* The number of each by V and by that sum; an empty listing leaves all unset. */
+static const size_t listing_number[LISTING_CALLS][2][8] = {
+    {{0, 20, 0, 20, 0, 20, 0, 20}, {0, 20, 10, 20, 12, 20, 10, 20}},
+    {{0, 20, 0, 20, 0, 20, 0, 20}, {0, 20, 0, 20, 12, 20, 12, 20}},
+};
+
+/* The listing of the text's mark, which is allowed; where there is no privilege it is empty. */
+static const char *const listings[2] = {"", "+ a text\n"};
+
+struct listing_runs {
+    const uint8_t *text, *given;
+    uint8_t *out;
+    size_t t, g, n; /* their lengths */
+};
+
+static finnedscarf_outcome make_listing(int call, int address, uint16_t format, struct listing_runs r)
+{
+    if (call == WRITE_LISTING)
+        return address ? write_listing(r.text, r.t, format, r.given, r.g, r.out, r.n)
+                       : finnedscarf_write_listing(r.text, r.t, format, r.given, r.g, r.out, r.n);
+    return address ? read_listing(r.text, r.t, format, r.given, r.g, r.out, r.n)
+                   : finnedscarf_read_listing(r.text, r.t, format, r.given, r.g, r.out, r.n);
+}
+
+/* The runs with some of them taken from `none`, which are all empty. */
+static struct listing_runs emptied_listing(struct listing_runs r, struct runs none, int empty)
+{
+    if (empty & TEXT) {
+        r.text = none.marks;
+        r.t = 0;
+    }
+    if (empty & GIVEN) {
+        r.given = none.marks;
+        r.g = 0;
+    }
+    if (empty & RESULT) {
+        r.out = none.third;
+        r.n = 0;
+    }
+    return r;
+}
+
+/* Puts into the result what a call that is done writes there. */
+static void put_listed(int call, size_t v, int empty, uint8_t *out)
+{
+    if (call == WRITE_LISTING)
+        memcpy(out, listings[v], strlen(listings[v]));
+    else if (v)
+        out[0] = empty & GIVEN ? FINNEDSCARF_UNSET : FINNEDSCARF_ALLOWED;
+}
+
+/* Writes or reads a listing in a call in which some runs are empty: those of `none`, which are all empty. */
+static void try_listing(int call, int address, size_t v, uint16_t format, int empty, struct runs none)
+{
+    uint8_t out[10], right_out[10];
+    memset(out, 9, sizeof out);
+    memset(right_out, 9, sizeof right_out);
+    size_t length = strlen(listings[v]);
+    struct listing_runs r = {(const uint8_t *)texts[v], allowed, out, strlen(texts[v]), v, sizeof out};
+    if (call == READ_LISTING) {
+        r.given = (const uint8_t *)listings[v];
+        r.g = length;
+    }
+    finnedscarf_outcome o = make_listing(call, address, format, emptied_listing(r, none, empty));
+
+    size_t number = FINNEDSCARF_FORMAT;
+    if (format == 1 || format == 2)
+        number = listing_number[call][v][empty];
+    size_t place = number == 0 && call == WRITE_LISTING ? length : 0;
+    if (number == 0)
+        put_listed(call, v, empty, right_out);
+    int right = memcmp(out, right_out, sizeof out) == 0;
+    if (o.number != number || o.place != place || o.count || has_breach(o) || !right) {
+        printf("tests/null: %s by %s, V %zu, format %d, empty runs %d: number %zu, place %zu, where %zu, %zu is right%s\n",
+               call == WRITE_LISTING ? "write_listing" : "read_listing", address ? "address" : "name", v, format, empty, o.number, o.place,
+               number, place, right ? "" : ", and another result");
+        exit(1);
+    }
+}
+
 /* The table that is read, and the numbers of the roles, are empty runs of words that a call may write, and the counts one of numbers. */
 static size_t try_all(struct runs none, uint16_t *no_words, uint32_t *no_numbers)
 {
@@ -571,6 +666,12 @@ static size_t try_all(struct runs none, uint16_t *no_words, uint32_t *no_numbers
         for (size_t v = 0; v < 2; v++)
             for (int empty = 0; empty < 8; empty++, tried++)
                 try_add(address, v, empty, none, no_numbers);
+    for (int call = 0; call < LISTING_CALLS; call++)
+        for (int address = 0; address < 2; address++)
+            for (size_t v = 0; v < 2; v++)
+                for (uint16_t format = 0; format < 4; format++)
+                    for (int empty = 0; empty < 8; empty++, tried++)
+                        try_listing(call, address, v, format, empty, none);
     return tried;
 }
 

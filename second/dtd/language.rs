@@ -27,7 +27,7 @@ fn repeated(runs: &Runs, longest: usize) -> Runs {
 
 /// The runs, up to a length, that a type takes.
 pub fn taken_by(declared: &Declared, of: usize, longest: usize) -> Runs {
-    let held = |&child: &usize| match child < declared.count {
+    let held = |&child: &usize| match child < declared.count() {
         true if longest > 0 => Runs::from([vec![child]]),
         true => Runs::new(),
         false => taken_by(declared, child, longest),

@@ -1,5 +1,5 @@
-// Cases that are made of a table and what belongs to it (request 12): in turn for each number of a table, with a large table, and for the
-// situation that came least often so far.
+// Cases that are made of a schema and what belongs to it (requests 10 and 12): in turn for each number of a schema, with a large one, and for
+// the situation that came least often so far.
 
 use super::aims::Aims;
 use super::chance::Random;
@@ -25,13 +25,12 @@ pub trait Base: Sized {
 
     fn of(r: &mut Random, format: Format) -> Self;
 
-    fn schema(&self) -> &Schema;
-
     fn sound_case(&self, r: &mut Random) -> Self::Case;
 
     fn spoil(&self, r: &mut Random, case: &mut Self::Case);
 
-    fn with_words(case: Self::Case, words: Vec<u16>) -> Self::Case;
+    /// One with a refused schema, all numbers and both formats in turn.
+    fn refused_case(r: &mut Random, turn: usize) -> Self::Case;
 
     fn large_case(r: &mut Random, turn: usize) -> Self::Case;
 
@@ -49,6 +48,18 @@ pub trait Base: Sized {
         }
         case
     }
+
+    /// One that may be in this situation.
+    fn case_for(&self, r: &mut Random, situation: &'static str) -> Self::Case {
+        self.case(r, Self::is_of_faults(situation))
+    }
+}
+
+/// Where the schema is a table.
+pub trait OfTable: Base {
+    fn schema(&self) -> &Schema;
+
+    fn with_words(case: Self::Case, words: Vec<u16>) -> Self::Case;
 }
 
 /// A small case, with faults or without.
@@ -57,8 +68,14 @@ pub fn any_case<B: Base>(r: &mut Random, is_spoilt: bool) -> B::Case {
     B::of(r, format).case(r, is_spoilt)
 }
 
-/// A table of this format that is refused with this number; in some cases with other faults too.
-fn refused_case<B: Base>(r: &mut Random, format: Format, number: usize) -> B::Case {
+/// The number and the format of a turn.
+pub fn refusal_at(turn: usize, numbers: &[usize]) -> (usize, Format) {
+    (numbers[turn % numbers.len()], FORMATS[turn / numbers.len() % 2])
+}
+
+/// A table that is refused with the number of this turn; in some cases with other faults too.
+pub fn refused_table_case<B: OfTable>(r: &mut Random, turn: usize) -> B::Case {
+    let (number, format) = refusal_at(turn, &TABLE[1..]);
     loop {
         let base = B::of(r, format);
         let words = refused_words(r, base.schema(), number).filter(|words| words.len() <= MOST_WORDS);
@@ -71,28 +88,25 @@ fn refused_case<B: Base>(r: &mut Random, format: Format, number: usize) -> B::Ca
 
 /// A small case in this situation: of each base some faults are tried, where it is one of faults.
 fn aimed_case<B: Base>(r: &mut Random, situation: &'static str) -> B::Case {
-    let is_spoilt = B::is_of_faults(situation);
-    let (tries, meets) = (if is_spoilt { 4 } else { 1 }, B::is_in(situation));
+    let (tries, meets) = (if B::is_of_faults(situation) { 4 } else { 1 }, B::is_in(situation));
     loop {
         let format = r.pick(&FORMATS);
         let base = B::of(r, format);
-        if let Some(case) = (0..tries).map(|_| base.case(r, is_spoilt)).find(&meets) {
+        if let Some(case) = (0..tries).map(|_| base.case_for(r, situation)).find(&meets) {
             return case;
         }
     }
 }
 
-/// Of five cases one has a refused table, all numbers in turn and the formats in turn; the last of each turn is a large one, and each of the
-/// others is made for the situation that came least often so far.
+/// Of five cases one has a refused schema; the last of each turn is a large one, and each of the others is made for the situation that came
+/// least often so far.
 pub fn cases<B: Base>(seed: u64, count: usize) -> impl Iterator<Item = B::Case> {
     let mut r = Random(seed);
-    let refusals = &TABLE[1..];
     let mut aims = Aims::new(B::USUAL);
     (0..count).map(move |k| {
-        let turn = k / 5;
         let case = match k % 5 {
             _ if k % B::TURN == B::TURN - 1 => B::large_case(&mut r, k / B::TURN),
-            0 => refused_case::<B>(&mut r, FORMATS[turn / refusals.len() % 2], refusals[turn % refusals.len()]),
+            0 => B::refused_case(&mut r, k / 5),
             _ => aimed_case::<B>(&mut r, aims.least()),
         };
         aims.add(&case);

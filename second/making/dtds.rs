@@ -5,7 +5,7 @@ mod cuts;
 mod damage;
 pub mod documents;
 mod likes;
-mod limits;
+pub mod limits;
 pub mod pieces;
 pub mod sound;
 pub mod tables;
@@ -14,6 +14,7 @@ pub mod written;
 use super::chance::Random;
 use crate::dtd::declared;
 use crate::dtd_case::DtdCase;
+use crate::format::Format;
 use aimed::{large_ways, ways, ways_by_bytes, ways_by_whole, Aimed, Way};
 use damage::damaged;
 use pieces::{pieces, text_of, Piece};
@@ -67,7 +68,7 @@ fn lent_of(r: &mut Random, length: usize) -> Vec<u16> {
 
 /// How many words the table of a text has; none where it is refused before.
 fn words_of(text: &[u8]) -> usize {
-    declared(text).map_or(0, |declared| declared.words().len())
+    declared(text).map_or(0, |declared| declared.words(Format::One).len())
 }
 
 /// A result with room for so many words, as a rule.

@@ -3,7 +3,7 @@
 mod faults;
 pub mod large;
 
-use super::bases::Base;
+use super::bases::{refused_table_case, Base, OfTable};
 use super::chance::Random;
 use super::files::bare;
 use super::policies::{mixed, policy};
@@ -176,10 +176,6 @@ impl Base for Month {
         Month { schema, v: table.v(), roles: count as u32, marks }
     }
 
-    fn schema(&self) -> &Schema {
-        &self.schema
-    }
-
     /// With counts as lent: as a rule just as long as they must be, and sometimes longer.
     fn sound_case(&self, r: &mut Random) -> SheetCase {
         let length = COUNTS * self.v + longer(r);
@@ -191,8 +187,8 @@ impl Base for Month {
         spoil(r, self, case);
     }
 
-    fn with_words(case: SheetCase, words: Vec<u16>) -> SheetCase {
-        SheetCase { words, ..case }
+    fn refused_case(r: &mut Random, turn: usize) -> SheetCase {
+        refused_table_case::<Month>(r, turn)
     }
 
     fn large_case(r: &mut Random, turn: usize) -> SheetCase {
@@ -205,5 +201,15 @@ impl Base for Month {
 
     fn is_in(situation: &'static str) -> impl Fn(&SheetCase) -> bool {
         is_in(situation)
+    }
+}
+
+impl OfTable for Month {
+    fn schema(&self) -> &Schema {
+        &self.schema
+    }
+
+    fn with_words(case: SheetCase, words: Vec<u16>) -> SheetCase {
+        SheetCase { words, ..case }
     }
 }

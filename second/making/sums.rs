@@ -3,7 +3,7 @@
 mod faults;
 mod large;
 
-use super::bases::Base;
+use super::bases::{refused_table_case, Base, OfTable};
 use super::chance::Random;
 use super::roles::table_of;
 use super::schemas::Schema;
@@ -114,10 +114,6 @@ impl Base for Sheets {
         Sheets { schema, v: table.v(), numbers }
     }
 
-    fn schema(&self) -> &Schema {
-        &self.schema
-    }
-
     fn sound_case(&self, r: &mut Random) -> SumCase {
         let [(sheet, counts), (more, more_counts)] = [0, 1].map(|of| self.given(r, of));
         SumCase { words: self.schema.words(), sheet, counts, more, more_counts }
@@ -127,8 +123,8 @@ impl Base for Sheets {
         spoil(r, self, case);
     }
 
-    fn with_words(case: SumCase, words: Vec<u16>) -> SumCase {
-        SumCase { words, ..case }
+    fn refused_case(r: &mut Random, turn: usize) -> SumCase {
+        refused_table_case::<Sheets>(r, turn)
     }
 
     fn large_case(r: &mut Random, turn: usize) -> SumCase {
@@ -141,5 +137,15 @@ impl Base for Sheets {
 
     fn is_in(situation: &'static str) -> impl Fn(&SumCase) -> bool {
         is_in(situation)
+    }
+}
+
+impl OfTable for Sheets {
+    fn schema(&self) -> &Schema {
+        &self.schema
+    }
+
+    fn with_words(case: SumCase, words: Vec<u16>) -> SumCase {
+        SumCase { words, ..case }
     }
 }

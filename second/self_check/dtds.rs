@@ -2,7 +2,7 @@
 
 mod coverage;
 mod grammar;
-mod known;
+pub mod known;
 mod languages;
 mod numbering;
 mod texts;

@@ -189,6 +189,18 @@ pub fn add_sheets(words: &[u16], sheet: Sheet, counts: &mut [u32], more: Sheet, 
     }
 }
 
+pub fn write_listing(text: &[u8], format: u16, marks: &[u8], out: &mut [u8]) -> Outcome {
+    unsafe {
+        finnedscarf_write_listing(text.as_ptr(), text.len(), format, marks.as_ptr(), marks.len(), out.as_mut_ptr(), out.len())
+    }
+}
+
+pub fn read_listing(text: &[u8], format: u16, listing: &[u8], out: &mut [u8]) -> Outcome {
+    unsafe {
+        finnedscarf_read_listing(text.as_ptr(), text.len(), format, listing.as_ptr(), listing.len(), out.as_mut_ptr(), out.len())
+    }
+}
+
 #[link(name = "store", kind = "static")]
 extern "C" {
     fn finnedscarf_check_table(words: *const u16, words_length: usize) -> Outcome;
@@ -305,4 +317,22 @@ extern "C" {
         more_counts: *const u32,
         more_counts_length: usize,
     ) -> Sheet;
+    fn finnedscarf_write_listing(
+        text: *const u8,
+        text_length: usize,
+        format: u16,
+        marks: *const u8,
+        marks_length: usize,
+        out: *mut u8,
+        out_length: usize,
+    ) -> Outcome;
+    fn finnedscarf_read_listing(
+        text: *const u8,
+        text_length: usize,
+        format: u16,
+        listing: *const u8,
+        listing_length: usize,
+        out: *mut u8,
+        out_length: usize,
+    ) -> Outcome;
 }

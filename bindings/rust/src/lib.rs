@@ -1,13 +1,13 @@
 //! Safe calls of Finnedscarf, the proved policy checker: checks a schema table, reads one from DTD text, judges a policy of edits on it,
 //! completes the policy, or those of all roles of a show at once, mends it, judges a mend that somebody proposes, carries its marks over when
-//! the schema is revised, counts the roles of a month on a [`Sheet`], and adds two of these. Judging, completing and mending one policy and
-//! judging a mend are there as well for one that is kept as two bit maps ([`Maps`]).
+//! the schema is revised, counts the roles of a month on a [`Sheet`], adds two of these, and writes and reads a policy as a listing that people
+//! can mail. Judging, completing and mending one policy and judging a mend are there as well for one that is kept as two bit maps ([`Maps`]).
 //!
 //! `words` is the schema table and `marks` the policy, one byte for each of its V privileges: [`UNSET`], [`ALLOWED`] or [`FORBIDDEN`].
-//! `include/finnedscarf.h` has the layout of the table, the table of a DTD text and the numbers of the privileges. Word 0 of a table is its
-//! format, 1 or 2; in format 2 there are privileges to replace an element by another of its own kind too. Every call takes every input: what
-//! is no table, no DTD text or no policy is a [`Refusal`], and a refused call leaves everything that it was lent as it was. No call allocates,
-//! and none keeps anything.
+//! `include/finnedscarf.h` has the layout of the table, the table of a DTD text, the numbers of the privileges and the lines of a listing. Word 0
+//! of a table is its format, 1 or 2; in format 2 there are privileges to replace an element by another of its own kind too. Every call takes every
+//! input: what is no table, no DTD text, no policy or no listing is a [`Refusal`], and a refused call leaves everything that it was lent as it was.
+//! No call allocates, and none keeps anything.
 //!
 //! ```
 //! use finnedscarf::{judge_policy, ALLOWED, FORBIDDEN, UNSET};
@@ -35,11 +35,13 @@
 //! variable `FINNEDSCARF_LIB` names; for rustc it is `-L native=target/staticlib` where this crate is compiled.
 
 mod border;
+mod listing;
 mod maps;
 mod roles;
 mod sheet;
 
 use border::Outcome;
+pub use listing::{read_listing, write_listing, MOST_LISTING};
 pub use maps::{Maps, MapsMut};
 pub use roles::{RoleRefusal, Roles};
 pub use sheet::{add_sheets, month_sheet, Sheet};
@@ -159,11 +161,11 @@ impl fmt::Display for Breach {
 ///
 /// ```
 /// let refusal = finnedscarf::check_table(&[]).unwrap_err();
-/// assert_eq!(refusal.to_string(), "refused with number 1: under 8 words lent, or word 0 is neither 1 nor 2");
+/// assert_eq!(refusal.to_string(), "refused with number 1: under 8 words lent, or word 0, or the format of a listing, is neither 1 nor 2");
 /// ```
 #[derive(Clone, Copy, Debug, PartialEq, Eq)]
 pub struct Refusal {
-    /// 1 to 24 or 30, or, of a new table, 101 to 109 or 119, as in `include/finnedscarf.h`. With 29, a refused sheet that is to be added, a call
+    /// 1 to 26 or 30, or, of a new table, 101 to 109 or 119, as in `include/finnedscarf.h`. With 29, a refused sheet that is to be added, a call
     /// from C alone can be refused.
     pub number: usize,
     /// The lowest type, privilege or byte at which the check of this number fails; 0 where the check has no places.
@@ -184,7 +186,7 @@ impl fmt::Display for Refusal {
             None => *number,
         };
         match number {
-            1 => write!(f, "under 8 words lent, or word 0 is neither 1 nor 2"),
+            1 => write!(f, "under 8 words lent, or word 0, or the format of a listing, is neither 1 nor 2"),
             2 => write!(f, "words 1 to 6 are not a table's, or the run lent isn't word 1 long"),
             3 => write!(f, "kind above 4 at type {place}"),
             4 => write!(f, "child count wrong for the kind at type {place}"),
@@ -201,7 +203,8 @@ impl fmt::Display for Refusal {
             12 => write!(
                 f,
                 "result shorter than the number of privileges (with all roles at once: for each role; over maps: in bits; of marks carried \
-                 over: either result; of sheets: than three counts for each privilege), or than the table that is read"
+                 over: either result; of sheets: than three counts for each privilege), than the table that is read, or than the listing that is \
+                 written"
             ),
             13 => write!(f, "not one proposed mark for each privilege (over maps: not one bit for each, rounded up to bytes)"),
             14 => write!(
@@ -223,6 +226,8 @@ impl fmt::Display for Refusal {
             22 => write!(f, "the name at byte {place} was declared before, or is used and never declared"),
             23 => write!(f, "privilege {place} is set in both maps"),
             24 => write!(f, "a spare bit is set in a map, behind those of the privileges"),
+            25 => write!(f, "the listing's line at byte {place} is not the line of a privilege, with its newline"),
+            26 => write!(f, "the listing's line at byte {place} has a privilege that is not above that of the line before"),
             29 => write!(f, "the {} sheet was itself refused", if *place == 0 { "first" } else { "other" }),
             30 => write!(f, "32 bits do not hold the sum of a count of privilege {place} (one past the last: of a number of roles)"),
             _ => write!(f, "a breach"),

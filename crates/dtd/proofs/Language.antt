@@ -5,7 +5,6 @@ use mathlib.Core.Logic.{inl, inr}
 use mathlib.Core.List.{List, _∷_, _++_}
 use native.Mathlib.Omega.{arith}
 use lib.ListN.{length, drop, take-append-drop}
-use Rattle.table.specs.Check.{numberOf}
 use Rattle.grammar.specs.Bytes.{ascii, Literal, done, byte}
 use Rattle.grammar.specs.Tree.{Content, Declaration, Nth, first, later}
 use Rattle.grammar.specs.Grammar.{Spec, spec-empty, spec-any, spec-text, spec-starred, spec-mixed, spec-children, element, Items, a-space, a-comment, a-declaration}
@@ -15,9 +14,9 @@ use Rattle.model.specs.Tables as tables
 use Rattle.model.specs.Tables.{tableOf}
 use Rattle.model.proofs.Numbers.{number-is}
 use Rattle.model.proofs.Same.{same-language}
-use Rattle.dtd.specs.Answer.{Named, DtdAnswer, no-text, too-large, misnamed, no-table, too-short}
+use Rattle.dtd.specs.Answer.{Named, DtdAnswer, refused, too-short}
 use Rattle.dtd.specs.Answer as answer
-use Rattle.dtd.proofs.Lasting.{some-number}
+use Rattle.dtd.proofs.OneAnswer.{no-table-number}
 
 module _ {t : List ℕ} {d : Declaration} {ds : List Declaration} (n : Named t d ds) where
   holds : {i k : ℕ} {e : Declaration} → Nth (d ∷ ds) i e → k ≤ length t → Holds t k e
@@ -48,25 +47,22 @@ module _ {t : List ℕ} {d : Declaration} {ds : List Declaration} (n : Named t d
   plain-items (a-declaration y r) f (later h) = plain-items r (λ e k q. f e (suc k) (later q)) h
 
   -- for each declared type the two languages are the same
-  pub named-language : {i : ℕ} {e : Declaration} → Nth (d ∷ ds) i e
-      → SameLanguage (tableOf 1 (d ∷ ds)) (length (d ∷ ds)) (tables.numberOf (d ∷ ds)) i (e .content)
-  named-language h = same-language 1 (d ∷ ds) (λ k z. n .right k (inr z)) h (plain-items (n .read .text .items) (λ e j q. (j, q)) h)
+  pub named-language : (format : ℕ) {i : ℕ} {e : Declaration} → Nth (d ∷ ds) i e
+      → SameLanguage (tableOf format (d ∷ ds)) (length (d ∷ ds)) (tables.numberOf (d ∷ ds)) i (e .content)
+  named-language format h = same-language format (d ∷ ds) (λ k z. n .right k (inr z)) h (plain-items (n .read .text .items) (λ e j q. (j, q)) h)
 
 -- what a done read gives: the table of the text's one tree, in the front of out, with the text's language, each declared type
 -- having the number of its declaration
-pub record ReadTable (t out after : List ℕ) : Type 0 where
+pub record ReadTable (t out : List ℕ) (format : ℕ) (after : List ℕ) : Type 0 where
   pub head : Declaration
   pub tail : List Declaration
   pub named : Named t head tail
-  pub written : after ≡ tableOf 1 (head ∷ tail) ++ drop (length (tableOf 1 (head ∷ tail))) out
+  pub written : after ≡ tableOf format (head ∷ tail) ++ drop (length (tableOf format (head ∷ tail))) out
   pub numbered : (i : ℕ) (e : Declaration) → Nth (head ∷ tail) i e → tables.numberOf (head ∷ tail) (e .named) ≡ i
   pub language : (i : ℕ) (e : Declaration) → Nth (head ∷ tail) i e
-      → SameLanguage (tableOf 1 (head ∷ tail)) (length (head ∷ tail)) (tables.numberOf (head ∷ tail)) i (e .content)
+      → SameLanguage (tableOf format (head ∷ tail)) (length (head ∷ tail)) (tables.numberOf (head ∷ tail)) i (e .content)
 
-pub read-language : {t out after : List ℕ} {number place : ℕ} → number ≡ 0 → DtdAnswer t out 1 number place after → ReadTable t out after
-read-language z (no-text e s f k) = absurd (omega arith)
-read-language z (too-large e o f g k) = absurd (omega arith)
-read-language z (misnamed e r m f k) = absurd (omega arith)
-read-language z (no-table c e n r k) = absurd (omega (arith, some-number c))
-read-language z (too-short e p n a l k) = absurd (omega arith)
-read-language z (answer.done {d = d} {ds = ds} e p n a l k) = record { head = d; tail = ds; named = n; written = k; numbered = λ i x h. number-is h (λ j z. n .right j (inl z)); language = λ i x h. named-language n h }
+pub read-language : {t out after : List ℕ} {format number place : ℕ} → number ≡ 0 → DtdAnswer t out format number place after → ReadTable t out format after
+read-language z (refused x k) = absurd (no-table-number x .0 z)
+read-language z (too-short e p x l k) = absurd (omega arith)
+read-language {format = format} z (answer.done {d = d} {ds = ds} e p x l k) = record { head = d; tail = ds; named = x .named; written = k; numbered = λ i y h. number-is h (λ j z. x .named .right j (inl z)); language = λ i y h. named-language (x .named) format h }

@@ -4,7 +4,7 @@ use mathlib.Core.Path.{_≡_, refl, sym, _∙_, ap, subst}
 use mathlib.Core.Logic.{inl, inr}
 use mathlib.Core.List.{List}
 use native.Mathlib.Omega.{arith}
-use lib.ListN.{length, take, drop, length-take, length-set, take-append-drop}
+use lib.ListN.{length, take, drop, length-take, take-append-drop}
 use lib.Seq.{ext-getD, getD-take}
 use Rattle.grammar.specs.Tree.{Particle, Particles, Content, Declaration, Nth, first, later}
 use Rattle.grammar.specs.Grammar.{Cp, cp-name, cp-group, Children, as-choice, as-sequence, Row, closed, separated, Spec, spec-empty, spec-any, spec-text, spec-starred, spec-mixed, spec-children}
@@ -18,10 +18,7 @@ use Rattle.grammar.proofs.OneTree.{one-tree}
 use Rattle.grammar.proofs.Stopping.{le-or-lt, text-no-stop, over-within}
 use Rattle.model.specs.Tables.{rulesOf, kidsOfAll, numberOf, tableOf}
 use Rattle.model.proofs.Counts.{declared-few}
-use Rattle.model.proofs.Shape.{table-length, format-is}
-use Rattle.table.specs.Words.{formatOf, types as types-of}
-use Rattle.dtd.proofs.Finishing.{same-format, same-types}
-use Rattle.dtd.proofs.Lasting.{types-are}
+use Rattle.model.proofs.Shape.{table-length}
 use Rattle.scan.specs.steps.Scanned as scanned
 use Rattle.scan.specs.steps.Scanned.{Stopped, Passed}
 use Rattle.write.specs.steps.Code.{codeOfAll, Counted, untotalled, Written}
@@ -29,7 +26,7 @@ use Rattle.code.specs.steps.Holding as holding
 use Rattle.code.specs.steps.Putting.{ShallowIn, AllShallowIn, AllPut}
 use Rattle.code.proofs.Entries.{code-short}
 use Rattle.names.specs.steps.Names as names
-use Rattle.dtd.specs.Answer.{Large, many-types, many-children, Read, DtdAnswer, no-text, too-large, misnamed, no-table, too-short, done}
+use Rattle.dtd.specs.Answer.{Large, many-types, many-children, Read, NoTable, no-text, too-large, misnamed, no-table, DtdAnswer, refused, too-short, done}
 use Rattle.dtd.specs.steps.Last.{Last, last-refused, last-short, last-done}
 use Rattle.dtd.specs.steps.Stages.{declarations, Collected, Encoded, Writable}
 
@@ -53,16 +50,16 @@ mutual
   deep-row (separated c s g u r) n k (inr w) = deep-row r n k w
 
 -- the refusals of the scan
-module _ {t out : List ℕ} {k : ℕ} where
-  pub stopped-answer : Stopped t k → DtdAnswer t out 1 20 k out
-  stopped-answer x = no-text refl (x .stops) (λ j h o. elim o [ inl y ↦ x .first j h y | inr y ↦ large-stops y (x .stops) ]) refl
+module _ {t : List ℕ} {format k : ℕ} where
+  pub stopped-answer : Stopped t k → NoTable t format 20 k
+  stopped-answer x = no-text refl (x .stops) (λ j h o. elim o [ inl y ↦ x .first j h y | inr y ↦ large-stops y (x .stops) ])
     where
       large-stops : {j : ℕ} → Large t j → Stops t k → ⊥
       large-stops (many-types e g n) s = text-no-stop g s
       large-stops (many-children e g n) s = text-no-stop g s
 
-  pub passed-answer : Passed t k → DtdAnswer t out 1 21 k out
-  passed-answer x = too-large refl (inl (x .passes)) (λ j h o. elim o [ inl y ↦ x .first j h y | inr y ↦ late h y ]) (x .before) refl
+  pub passed-answer : Passed t k → NoTable t format 21 k
+  passed-answer x = too-large refl (inl (x .passes)) (λ j h o. elim o [ inl y ↦ x .first j h y | inr y ↦ late h y ]) (x .before)
     where
       late : {j : ℕ} → j < k → Large t j → ⊥
       late h (many-types e g n) = omega (arith, over-within (x .passes))
@@ -74,8 +71,8 @@ at-length (many-children e g n) = e
 
 -- a text that was scanned
 module _ {t : List ℕ} (r : scanned.Read t) where
-  pub large-answer : {out : List ℕ} → Large t (length t) → DtdAnswer t out 1 21 (length t) out
-  large-answer x = too-large refl (inr x) (λ j h o. elim o [ inl y ↦ r .small j y | inr y ↦ omega (arith, at-length y) ]) (λ j h s. text-no-stop (r .text) s) refl
+  pub large-answer : {format : ℕ} → Large t (length t) → NoTable t format 21 (length t)
+  large-answer x = too-large refl (inr x) (λ j h o. elim o [ inl y ↦ r .small j y | inr y ↦ omega (arith, at-length y) ]) (λ j h s. text-no-stop (r .text) s)
 
   pub short-text : length t ≤ 65536
   short-text = elim (le-or-lt (length t) 65536) [ inl h ↦ h | inr h ↦ absurd (r .small 65536 (long-text refl h)) ]
@@ -107,7 +104,7 @@ module _ {t list : List ℕ} {count : ℕ} (r : scanned.Read t) (x : names.Colle
       let y = x .of (declarations r) (r .text .items) (short-text r) in
       record { read = r; known = record { all = sym (y .0); few = h; listed = y .1 h; short = short-text r } }
 
-  pub many-declared : {out : List ℕ} → 256 < count → DtdAnswer t out 1 21 (length t) out
+  pub many-declared : {format : ℕ} → 256 < count → NoTable t format 21 (length t)
   many-declared h =
       let y = x .of (declarations r) (r .text .items) (short-text r) in
       large-answer r (many-types refl (r .text) (omega (arith, y .0, declared-few (declarations r))))
@@ -135,17 +132,17 @@ module _ {t list buffer : List ℕ} {count size : ℕ} (c : Collected t list cou
       same : take size buffer ≡ code-of
       same = ext-getD 0 (take size buffer) code-of (omega (arith, whole, length-take size buffer)) (λ i l. (getD-take size buffer i 0 (omega (arith, length-take size buffer)) ∙ held .same i (omega (arith, whole, length-take size buffer)) (omega (arith, length-take size buffer))))
 
-  pub code-long : {out : List ℕ} → 1280 < size → DtdAnswer t out 1 21 (length t) out
+  pub code-long : {format : ℕ} → 1280 < size → NoTable t format 21 (length t)
   code-long h =
       let ds = declarations (c .read) in
       large-answer (c .read) (many-children refl (c .read .text) (let z = held .sized in omega (arith, code-short (numberOf ds) ds, c .known .all, c .known .few)))
 
 -- the counts
 module _ {t list code-words : List ℕ} {count types kids : ℕ} (c : Encoded t list count code-words) (x : Counted (declarations (c .collected .read)) types kids) where
-  pub too-many-types : {out : List ℕ} → 256 < types → DtdAnswer t out 1 21 (length t) out
+  pub too-many-types : {format : ℕ} → 256 < types → NoTable t format 21 (length t)
   too-many-types h = large-answer (c .collected .read) (many-types refl (c .collected .read .text) (omega (arith, x .types-are)))
 
-  pub too-many-kids : {out : List ℕ} → 1024 < kids → DtdAnswer t out 1 21 (length t) out
+  pub too-many-kids : {format : ℕ} → 1024 < kids → NoTable t format 21 (length t)
   too-many-kids h = large-answer (c .collected .read) (many-children refl (c .collected .read .text) (omega (arith, x .kids-are)))
 
   module _ (few : types ≤ 256) (short : kids ≤ 1024) where
@@ -156,17 +153,17 @@ module _ {t list code-words : List ℕ} {count types kids : ℕ} (c : Encoded t 
         no-large (many-types e g n) = let z = subst (λ (s : List Declaration). 256 < length (rulesOf s)) (one-tree g (c .collected .read .text)) n in omega (arith, x .types-are)
         no-large (many-children e g n) = let z = subst (λ (s : List Declaration). 1024 < length (kidsOfAll (rulesOf s))) (one-tree g (c .collected .read .text)) n in omega (arith, x .kids-are)
 
-    pub wrong-name : {out : List ℕ} {k : ℕ} → names.FirstMisnamed (declarations (c .collected .read)) (At k) → DtdAnswer t out 1 22 k out
-    wrong-name y = misnamed refl read-it (y .0) (y .1) refl
+    pub wrong-name : {format k : ℕ} → names.FirstMisnamed (declarations (c .collected .read)) (At k) → NoTable t format 22 k
+    wrong-name y = misnamed refl read-it (y .0) (y .1)
 
     pub writable : Writable (declarations (c .collected .read)) code-words count types kids
     writable = record { coded = c .coded; all = c .collected .known .all; counted = x; small = record { some = omega arith; types-few = omega (arith, x .types-are); kids-few = omega (arith, x .kids-are) } }
 
-    pub last-answer : {out after : List ℕ} {n p : ℕ} → names.FirstMisnamed (declarations (c .collected .read)) Nothing → Last (tableOf 1 (declarations (c .collected .read))) out n p after
-        → DtdAnswer t out 1 n p after
-    last-answer y (last-refused k e r z) = no-table k e (record { read = read-it; right = y }) r z
-    last-answer y (last-short e q a l z) = too-short e q (record { read = read-it; right = y }) a l z
-    last-answer y (last-done e q a l z) = done e q (record { read = read-it; right = y }) a l z
+    pub last-answer : {out after : List ℕ} {format n p : ℕ} → names.FirstMisnamed (declarations (c .collected .read)) Nothing
+        → Last (tableOf format (declarations (c .collected .read))) out n p after → DtdAnswer t out format n p after
+    last-answer y (last-refused k e r z) = refused (no-table k e (record { read = read-it; right = y }) r) z
+    last-answer y (last-short e q a l z) = too-short e q (record { named = record { read = read-it; right = y }; accepted = a }) l z
+    last-answer y (last-done e q a l z) = done e q (record { named = record { read = read-it; right = y }; accepted = a }) l z
 
 pub scanned-is : (t : List ℕ) {r q : Step} → r ≡ q → scanned.Scanned t r → scanned.Scanned t q
 scanned-is t e x = rw e at x
@@ -182,13 +179,6 @@ module _ {words front : List ℕ} (n : ℕ) {ds : List Declaration} {code-words 
 
   pub front-is : front ≡ untotalled ds
   front-is = f ∙ ap (λ (k : ℕ). take k words) size-is ∙ x .table ds (w .coded) (w .all) (w .counted) (omega (arith, w .counted .types-are, w .small .types-few)) (omega (arith, w .counted .kids-are, w .small .kids-few))
-
-  pub front-fits : (formatOf front ≡ 1) × (8 ≤ length front) × (8 + 3 * types-of front ≤ length front) × (types-of front ≤ 256)
-  front-fits =
-      let s = ap {A = List ℕ} length front-is ∙ length-set (tableOf 1 ds) 7 0 in
-      let t = ap {A = List ℕ} types-of front-is ∙ same-types (tableOf 1 ds) 0 ∙ types-are ds in
-      let one : formatOf front ≡ 1 = ap {A = List ℕ} formatOf front-is ∙ same-format (tableOf 1 ds) 0 ∙ format-is 1 ds in
-      (one, omega (arith, s, table-length 1 ds), omega (arith, s, t, table-length 1 ds), omega (arith, t, w .small .types-few))
 
 pub words-fit : {n types kids : ℕ} {words : List ℕ} {code-words : List ℕ} {declared : ℕ} → types ≤ 256 → kids ≤ 1024 → Written code-words words declared types kids → n ≡ 8 + 3 * types + kids → n ≤ length words
 words-fit a b x e = omega (arith, x .sized)

@@ -15,6 +15,10 @@ use Rattle.grammar.specs.Limits.{Over}
 use Rattle.model.specs.Names.{Misnamed}
 use Rattle.model.specs.Tables.{rulesOf, kidsOfAll, tableOf}
 
+-- a table's format is 1 or 2
+abbrev pub KnownFormat : ℕ → Type 0
+KnownFormat format = (format ≡ 1) ⊎ (format ≡ 2)
+
 -- "or, at the length, over 256 types or 1,024 child entries"
 pub data Large (t : List ℕ) (k : ℕ) : Type 0 where
   many-types : {d : Declaration} {ds : List Declaration} → k ≡ length t → Text t d ds → 256 < length (rulesOf (d ∷ ds)) → Large t k
@@ -34,16 +38,25 @@ pub record Named (t : List ℕ) (d : Declaration) (ds : List Declaration) : Type
   pub read : Read t d ds
   pub right : (k : ℕ) → ¬ Misnamed (d ∷ ds) k
 
-pub data DtdAnswer (t out : List ℕ) (format number place : ℕ) (after : List ℕ) : Type 0 where
-  no-text : number ≡ 20 → Stops t place → ((j : ℕ) → j < place → ¬ TooLarge t j) → after ≡ out → DtdAnswer t out format number place after
-  too-large : number ≡ 21 → TooLarge t place → ((j : ℕ) → j < place → ¬ TooLarge t j) → ((j : ℕ) → j ≤ place → ¬ Stops t j) → after ≡ out
-      → DtdAnswer t out format number place after
+-- why a text has no table: "the earliest byte of 20 and 21 decides, then the lower number"; "then 22"; "then the table's own numbers"
+pub data NoTable (t : List ℕ) (format number place : ℕ) : Type 0 where
+  no-text : number ≡ 20 → Stops t place → ((j : ℕ) → j < place → ¬ TooLarge t j) → NoTable t format number place
+  too-large : number ≡ 21 → TooLarge t place → ((j : ℕ) → j < place → ¬ TooLarge t j) → ((j : ℕ) → j ≤ place → ¬ Stops t j)
+      → NoTable t format number place
   misnamed : {d : Declaration} {ds : List Declaration} → number ≡ 22 → Read t d ds → Misnamed (d ∷ ds) place
-      → ((j : ℕ) → j < place → ¬ Misnamed (d ∷ ds) j) → after ≡ out → DtdAnswer t out format number place after
+      → ((j : ℕ) → j < place → ¬ Misnamed (d ∷ ds) j) → NoTable t format number place
   no-table : {d : Declaration} {ds : List Declaration} (check : Check) → number ≡ numberOf check → Named t d ds
-      → Refused (tableOf format (d ∷ ds)) check place → after ≡ out → DtdAnswer t out format number place after
-  too-short : {d : Declaration} {ds : List Declaration} → number ≡ 12 → place ≡ 0 → Named t d ds → Accepted (tableOf format (d ∷ ds))
+      → Refused (tableOf format (d ∷ ds)) check place → NoTable t format number place
+
+-- a text that has a table
+pub record Tabled (t : List ℕ) (format : ℕ) (d : Declaration) (ds : List Declaration) : Type 0 where
+  pub named : Named t d ds
+  pub accepted : Accepted (tableOf format (d ∷ ds))
+
+pub data DtdAnswer (t out : List ℕ) (format number place : ℕ) (after : List ℕ) : Type 0 where
+  refused : NoTable t format number place → after ≡ out → DtdAnswer t out format number place after
+  too-short : {d : Declaration} {ds : List Declaration} → number ≡ 12 → place ≡ 0 → Tabled t format d ds
       → length out < length (tableOf format (d ∷ ds)) → after ≡ out → DtdAnswer t out format number place after
-  done : {d : Declaration} {ds : List Declaration} → number ≡ 0 → place ≡ privileges (tableOf format (d ∷ ds)) → Named t d ds
-      → Accepted (tableOf format (d ∷ ds)) → length (tableOf format (d ∷ ds)) ≤ length out
-      → after ≡ tableOf format (d ∷ ds) ++ drop (length (tableOf format (d ∷ ds))) out → DtdAnswer t out format number place after
+  done : {d : Declaration} {ds : List Declaration} → number ≡ 0 → place ≡ privileges (tableOf format (d ∷ ds)) → Tabled t format d ds
+      → length (tableOf format (d ∷ ds)) ≤ length out → after ≡ tableOf format (d ∷ ds) ++ drop (length (tableOf format (d ∷ ds))) out
+      → DtdAnswer t out format number place after

@@ -3,10 +3,11 @@ ghost use Prim.Native.Nat.{_+_, _*_, _≤_};
 ghost use mathlib.Core.Path.{_≡_};
 ghost use mathlib.Core.List.{List, _++_};
 ghost use lib.ListN.{length, drop};
-ghost use Rattle.table.specs.Words.{formatOf, types};
+ghost use Rattle.table.specs.Words.{types};
 ghost use Rattle.grammar.specs.Tree.{Declaration};
 ghost use Rattle.write.specs.steps.Code.{untotalled};
 ghost use Rattle.model.specs.Tables.{tableOf};
+ghost use Rattle.dtd.specs.Answer.{KnownFormat};
 ghost use Rattle.dtd.specs.steps.Last.{Last, TotalRead, Small};
 use table::Checked;
 use table::check_table;
@@ -21,7 +22,7 @@ enum Total {
 }
 
 fn add_up(words: &[u16]) -> Total
-    requires { ⌜ (formatOf (now words) ≡ 1) × (8 + 3 * types (now words) ≤ length (now words)) ⌝ }
+    requires { ⌜ 8 + 3 * types (now words) ≤ length (now words) ⌝ }
     ensures { λ r. ⌜ TotalRead (now (words .entry)) r ⌝ }
 {
     let e = types(words);
@@ -67,11 +68,12 @@ fn answer(words: &[u16], out: &mut [u16]) -> Checked
     r
 }
 
-// The answer for a table of format 1 whose word 7 is still to be written.
-pub(crate) fn finish(words: &mut [u16], out: &mut [u16]) -> Checked
-    requires { ⌜ (formatOf (now words) ≡ 1) × (8 ≤ length (now words)) × (8 + 3 * types (now words) ≤ length (now words)) × (types (now words) ≤ 256) ⌝ }
-    ensures { λ r. ⌜ ((ds : List Declaration) → Small ds → now (words .entry) ≡ untotalled ds → Last (tableOf 1 ds) (now (out .entry)) (r .number) (r .place) (now (out .exit))) ⌝ }
+// The answer for a table of a format: lent are its words in format 1, of which word 7 is still to be written.
+pub(crate) fn finish(words: &mut [u16], format: u16, out: &mut [u16]) -> Checked
+    requires { ⌜ KnownFormat format × ((ds : List Declaration) × Small ds × (now words ≡ untotalled ds)) ⌝ }
+    ensures { λ r. ⌜ ((ds : List Declaration) → Small ds → now (words .entry) ≡ untotalled ds → Last (tableOf format ds) (now (out .entry)) (r .number) (r .place) (now (out .exit))) ⌝ }
 {
+    words[0] = format;
     match add_up(words) {
         Total::Wide(t) => Checked {
             number: 4,

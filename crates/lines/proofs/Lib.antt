@@ -1,4 +1,4 @@
 -- Laws of the definitions of specs/.
-pub mod Texts
+pub mod Raised
 pub mod Decimals
 pub mod Spaced

@@ -8,8 +8,9 @@ use lib.Dec.{ltb}
 use lib.ListN.{length, getD, take, length-append, length-map}
 use lib.Seq.{take-suc, take-length, length-take-le}
 use Rattle.lines.specs.Text.{raised, decimalWithin, decimal, numbers, marksText, line}
-use Rattle.lines.specs.steps.Putting.{Raisable, Puts}
-use Rattle.lines.proofs.Texts.{puts-none, puts-then, puts-length, puts-as}
+use Rattle.runs.specs.Putting.{Puts}
+use Rattle.lines.specs.steps.Putting.{Raisable}
+use Rattle.runs.proofs.Texts.{puts-none, puts-then, puts-length, puts-as}
 
 pub one-raisable : (b by : ℕ) → b + by < 256 → Raisable by (b ∷ [])
 one-raisable b by h zero l = h

@@ -1,9 +1,10 @@
-// Text put into a lent buffer. Contracts cite specs/Text and specs/steps/Putting.
+// Text put into a lent buffer. Contracts cite specs/Text, specs/steps/Putting and crate runs.
 ghost use Prim.Native.Nat.{_+_, _*_, _≤_};
 ghost use mathlib.Core.List.{_∷_};
 ghost use lib.ListN.{length};
 ghost use Rattle.lines.specs.Text.{raised, decimal, numbers, marksText, line};
-ghost use Rattle.lines.specs.steps.Putting.{Raisable, Puts};
+ghost use Rattle.runs.specs.Putting.{Puts};
+ghost use Rattle.lines.specs.steps.Putting.{Raisable};
 
 // Puts bytes, each raised by a number: 0 for text, 48 for digits.
 fn put(out: &mut [u8], at: usize, bytes: &[u8], by: u8) -> usize

@@ -1,7 +1,8 @@
 -- Check 4 on a table of declarations: every rule has the right number of children but for the limit of 16, which only a sequence or a choice passes;
 -- within the limits of number 2 the table is refused at the lowest type that does. Assumes nothing.
 use Prim.Native.Nat.{ℕ, zero, suc, _+_, _≤_, _<_}
-use mathlib.Core.Path.{refl}
+use mathlib.Core.Path.{_≡_, refl}
+use mathlib.Core.Logic.{_⊎_}
 use mathlib.Core.List.{List, [], _∷_, _++_}
 use native.Mathlib.Omega.{arith}
 use lib.ListN.{length, getD}
@@ -148,21 +149,22 @@ count-wrong format ds t l many =
     let w = recorded format rs t l in
     rw (w .kind, w .count) (wrong (getD rs t empty) (rw (w .count) at many))
 
-pub wide-refused : (ds : List Declaration) (t : ℕ) → 1 ≤ length ds → length (rulesOf ds) ≤ 256 → length (kidsOfAll (rulesOf ds)) ≤ 1024
-    → t < length (rulesOf ds) → 16 < countAt (tableOf 1 ds) t → ((j : ℕ) → j < t → countAt (tableOf 1 ds) j ≤ 16) → Refused (tableOf 1 ds) Count t
-wide-refused ds t some few short l many before = record {
+pub wide-refused : (format : ℕ) (ds : List Declaration) (t : ℕ) → (format ≡ 1) ⊎ (format ≡ 2) → 1 ≤ length ds → length (rulesOf ds) ≤ 256
+    → length (kidsOfAll (rulesOf ds)) ≤ 1024 → t < length (rulesOf ds) → 16 < countAt (tableOf format ds) t
+    → ((j : ℕ) → j < t → countAt (tableOf format ds) j ≤ 16) → Refused (tableOf format ds) Count t
+wide-refused format ds t known some few short l many before = record {
   earlier = earlier;
   lowest = record {
-    within = rw (types-are 1 (rulesOf ds)) l;
-    fails = count-wrong 1 ds t l many;
-    before = λ j h. count-right 1 ds j (omega arith) (before j h);
+    within = rw (types-are format (rulesOf ds)) l;
+    fails = count-wrong format ds t l many;
+    before = λ j h. count-right format ds j (omega arith) (before j h);
   };
 }
   where
-    earlier : Earlier (tableOf 1 ds) Count
-    earlier Format r = format-passes ds
-    earlier Layout r = layout-passes 1 ds some few short
-    earlier Kind r = kind-passes 1 ds
+    earlier : Earlier (tableOf format ds) Count
+    earlier Format r = format-passes format ds known
+    earlier Layout r = layout-passes format ds some few short
+    earlier Kind r = kind-passes format ds
     earlier Count r = absurd (omega arith)
     earlier Stretch r = absurd (omega arith)
     earlier Bounds r = absurd (omega arith)

@@ -2,7 +2,7 @@
 -- the number of its privileges. Assumes nothing.
 use Prim.Native.Nat.{ℕ, zero, suc, _+_, _*_, _≤_, _<_}
 use mathlib.Core.Path.{_≡_, refl, sym, _∙_}
-use mathlib.Core.Logic.{inl}
+use mathlib.Core.Logic.{_⊎_}
 use mathlib.Core.List.{List, [], _∷_, _++_}
 use native.Mathlib.Omega.{arith}
 use lib.ListN.{length, getD, take, length-append}
@@ -65,9 +65,9 @@ pub table-length : (format : ℕ) (ds : List Declaration) → length (tableOf fo
 table-length format ds = words-length format (rulesOf ds)
 
 -- numbers 1, 2, 3, 5 and 6 cannot fail
-pub format-passes : (ds : List Declaration) → Passes (tableOf 1 ds) Format
+pub format-passes : (format : ℕ) (ds : List Declaration) → (format ≡ 1) ⊎ (format ≡ 2) → Passes (tableOf format ds) Format
 unfolding wordsOf
-format-passes ds p l = record { long = omega (arith, table-length 1 ds); format = inl refl }
+format-passes format ds known p l = record { long = omega (arith, table-length format ds); format = known }
 
 pub format-is : (format : ℕ) (ds : List Declaration) → formatOf (tableOf format ds) ≡ format
 unfolding wordsOf

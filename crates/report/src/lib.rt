@@ -6,7 +6,7 @@ ghost use lib.ListN.{length, take};
 ghost use Rattle.table.specs.Check.{Accepted};
 ghost use Rattle.policy.specs.Marks.{Policy};
 ghost use Rattle.lines.specs.Text.{line};
-ghost use Rattle.lines.specs.steps.Putting.{Puts};
+ghost use Rattle.runs.specs.Putting.{Puts};
 ghost use Rattle.report.specs.File.{wordsOf, lentOf};
 ghost use Rattle.report.specs.Report.{answerLine, fiveOf, numbersOf, verdictWord, CompleteLine, MendedLine, PolicyLines, Report, Reported};
 ghost use Rattle.report.specs.steps.Adding.{Adds};

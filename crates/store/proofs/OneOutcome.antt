@@ -2,13 +2,17 @@
 use Prim.Native.Nat.{ℕ}
 use mathlib.Core.Path.{_≡_, sym, ap, _∙_}
 use mathlib.Core.List.{List}
+use Rattle.table.specs.Check.{TableAnswer}
 use Rattle.table.proofs.Answers.{answer-one}
 use Rattle.verdict.specs.Answers.{JudgeAnswer}
 use Rattle.verdict.specs.declared.Answer.{Answer}
 use Rattle.verdict.proofs.Judged.{refusal-one, judge-one}
 use Rattle.completion.specs.Answers.{CompleteAnswer}
 use Rattle.completion.proofs.Completing.{complete-one}
+use Rattle.dtd.specs.Answer.{DtdAnswer}
 use Rattle.dtd.proofs.OneAnswer.{one-answer}
+use Rattle.mail.specs.Answers.{WriteAnswer, ReadAnswer}
+use Rattle.mail.proofs.One.{write-one, read-one}
 use Rattle.mending.specs.Answers.{MendAnswer}
 use Rattle.proposing.specs.Answers.{ProposeAnswer}
 use Rattle.mending.proofs.Answered.{mend-one}
@@ -20,24 +24,38 @@ use Rattle.maps.specs.Answers.{JudgeMapsAnswer, ProposeMapsAnswer, CompleteMaps
 use Rattle.maps.proofs.Agreed.{judge-maps-one, propose-maps-one, complete-maps-one, mend-maps-one}
 use Rattle.carry.specs.Answers.{CarryAnswer}
 use Rattle.carry.proofs.Answers.{carry-one}
-use Rattle.store.specs.Outcomes.{outcomeOf, CheckAnswer, ReadAnswer, Told}
+use Rattle.store.specs.Outcomes.{outcomeOf, Placed, Told}
 use Rattle.store.specs.declared.Outcome.{Outcome}
 
 -- one answer, one outcome
 told-one : {P Q : Answer → Type 0} {o p : Outcome} → (s : Told P o) → (t : Told Q p) → s .answer ≡ t .answer → o ≡ p
 told-one s t e = s .is ∙ ap outcomeOf e ∙ sym (t .is)
 
-check-one : {ws : List ℕ} {a b : Answer} → CheckAnswer ws a → CheckAnswer ws b → a ≡ b
-check-one c d = c .rest ∙ refusal-one (answer-one (c .table) (d .table)) ∙ sym (d .rest)
+-- one number and one place, one answer
+placed-one : {P Q : ℕ → ℕ → Type 0} {a b : Answer} → Placed P a → Placed Q b → (a .number ≡ b .number) × (a .place ≡ b .place) → a ≡ b
+placed-one c d one = c .rest ∙ refusal-one one ∙ sym (d .rest)
 
-pub check-outcome : {ws : List ℕ} {o p : Outcome} → Told (CheckAnswer ws) o → Told (CheckAnswer ws) p → o ≡ p
-check-outcome s t = told-one s t (check-one (s .promised) (t .promised))
+pub check-outcome : {ws : List ℕ} {o p : Outcome} → Told (Placed (TableAnswer ws)) o → Told (Placed (TableAnswer ws)) p → o ≡ p
+check-outcome s t = told-one s t (placed-one (s .promised) (t .promised) (answer-one (s .promised .placed) (t .promised .placed)))
 
-pub read-outcome : {text out x y : List ℕ} {o p : Outcome} → Told (λ a. ReadAnswer text out a x) o → Told (λ a. ReadAnswer text out a y) p
-    → (o ≡ p) × (x ≡ y)
+pub read-outcome : {text out x y : List ℕ} {o p : Outcome} → Told (Placed (λ n k. DtdAnswer text out 1 n k x)) o
+    → Told (Placed (λ n k. DtdAnswer text out 1 n k y)) p → (o ≡ p) × (x ≡ y)
 read-outcome s t =
-    let one = one-answer (s .promised .read) (t .promised .read) in
-    (told-one s t (s .promised .rest ∙ refusal-one (one .number, one .place) ∙ sym (t .promised .rest)), one .after)
+    let one = one-answer (s .promised .placed) (t .promised .placed) in
+    (told-one s t (placed-one (s .promised) (t .promised) (one .number, one .place)), one .after)
+
+module _ {text out x y : List ℕ} {format : ℕ} {o p : Outcome} where
+  pub write-outcome : {marks : List ℕ} → Told (Placed (λ n k. WriteAnswer text format marks out n k x)) o
+      → Told (Placed (λ n k. WriteAnswer text format marks out n k y)) p → (o ≡ p) × (x ≡ y)
+  write-outcome s t =
+      let one = write-one (s .promised .placed) (t .promised .placed) in
+      (told-one s t (placed-one (s .promised) (t .promised) (one .number, one .place)), one .after)
+
+  pub listing-outcome : {listing : List ℕ} → Told (Placed (λ n k. ReadAnswer text format listing out n k x)) o
+      → Told (Placed (λ n k. ReadAnswer text format listing out n k y)) p → (o ≡ p) × (x ≡ y)
+  listing-outcome s t =
+      let one = read-one (s .promised .placed) (t .promised .placed) in
+      (told-one s t (placed-one (s .promised) (t .promised) (one .number, one .place)), one .after)
 
 module _ {ws marks : List ℕ} {o p : Outcome} where
   pub judge-outcome : Told (JudgeAnswer ws marks) o → Told (JudgeAnswer ws marks) p → o ≡ p

@@ -1,10 +1,7 @@
 -- What a call answers to a program in another language: nine numbers, and a chain with its length (document 01, "Numbers of the answers and their order";
--- document 02, orders 3, 8 and 6). Assumes nothing.
+-- document 02, orders 8 and 6). Assumes nothing.
 use Prim.Native.Nat.{ℕ}
 use mathlib.Core.Path.{_≡_}
-use mathlib.Core.List.{List}
-use Rattle.table.specs.Check.{TableAnswer}
-use Rattle.dtd.specs.Answer.{DtdAnswer}
 use Rattle.verdict.specs.Breaches.{conditionNumber}
 use Rattle.verdict.specs.Answers.{refusal}
 use Rattle.verdict.specs.declared.Answer.{Answer}
@@ -26,14 +23,9 @@ outcomeOf a = record {
   chain = a .breach .chain;
 }
 
--- checking a table as an answer: its number and place, the rest 0
-pub record CheckAnswer (ws : List ℕ) (a : Answer) : Type 0 where
-  pub table : TableAnswer ws (a .number) (a .place)
-  pub rest : a ≡ refusal (a .number) (a .place)
-
--- reading DTD text into a table of format 1 as an answer: its number and place, the rest 0
-pub record ReadAnswer (text out : List ℕ) (a : Answer) (after : List ℕ) : Type 0 where
-  pub read : DtdAnswer text out 1 (a .number) (a .place) after
+-- an answer that is a number and a place as promised, and else zeros
+pub record Placed (Promised : ℕ → ℕ → Type 0) (a : Answer) : Type 0 where
+  pub placed : Promised (a .number) (a .place)
   pub rest : a ≡ refusal (a .number) (a .place)
 
 -- the outcome is that of an answer as promised

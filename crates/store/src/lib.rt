@@ -1,6 +1,8 @@
-// The fourteen calls for programs in C and Rust: runs and lengths in, an outcome or a sheet out. include/finnedscarf.h declares them.
+// The sixteen calls for programs in C and Rust: runs and lengths in, an outcome or a sheet out. include/finnedscarf.h declares them.
 // Contracts cite specs/Outcomes for the outcome, and the definitions of the crate that makes the call for the answer and for the sheet.
 ghost use mathlib.Core.Path.{_≡_};
+ghost use Rattle.table.specs.Check.{TableAnswer};
+ghost use Rattle.dtd.specs.Answer.{DtdAnswer};
 ghost use Rattle.verdict.specs.Answers.{JudgeAnswer};
 ghost use Rattle.completion.specs.Answers.{CompleteAnswer};
 ghost use Rattle.mending.specs.Answers.{MendAnswer};
@@ -11,11 +13,14 @@ ghost use Rattle.maps.specs.Answers.{JudgeMapsAnswer, CompleteMapsAnswer, MendM
 ghost use Rattle.carry.specs.Answers.{CarryAnswer};
 ghost use Rattle.sheet.specs.Answers.{MonthAnswer};
 ghost use Rattle.adding.specs.Answers.{AddAnswer};
-ghost use Rattle.store.specs.Outcomes.{outcomeOf, CheckAnswer, ReadAnswer, Told};
+ghost use Rattle.mail.specs.Answers.{WriteAnswer, ReadAnswer};
+ghost use Rattle.store.specs.Outcomes.{outcomeOf, Placed, Told};
 use adding::add_sheets;
 use carry::carry_marks;
 use completion::complete;
 use dtd::read_dtd;
+use mail::read_listing;
+use mail::write_listing;
 use maps::complete_maps;
 use maps::judge_maps;
 use maps::judge_mend_maps;
@@ -71,7 +76,7 @@ fn outcome_of(answer: Answer) -> Outcome
 // Checks a run of words: 0 and V where it is a table, else 1 to 9 or 19 and the place. All else is 0.
 #[no_mangle]
 pub extern "C" fn finnedscarf_check_table(words: &[u16]) -> Outcome
-    ensures { λ r. ⌜ Told (CheckAnswer (now (words .entry))) r ⌝ }
+    ensures { λ r. ⌜ Told (Placed (TableAnswer (now (words .entry)))) r ⌝ }
 {
     let checked = check_table(words);
     outcome_of(refused(checked.number, checked.place))
@@ -81,7 +86,7 @@ pub extern "C" fn finnedscarf_check_table(words: &[u16]) -> Outcome
 // keeps its rest. All else is 0.
 #[no_mangle]
 pub extern "C" fn finnedscarf_read_dtd(text: &[u8], out: &mut [u16]) -> Outcome
-    ensures { λ r. ⌜ Told (λ a. ReadAnswer (now (text .entry)) (now (out .entry)) a (now (out .exit))) r ⌝ }
+    ensures { λ r. ⌜ Told (Placed (λ n p. DtdAnswer (now (text .entry)) (now (out .entry)) 1 n p (now (out .exit)))) r ⌝ }
 {
     let read = read_dtd(text, out);
     outcome_of(refused(read.number, read.place))
@@ -238,4 +243,34 @@ pub extern "C" fn finnedscarf_add_sheets(
     ensures { λ r. ⌜ AddAnswer (now (words .entry)) sheet (now (counts .entry)) more (now («more_counts» .entry)) r (now (counts .exit)) ⌝ }
 {
     add_sheets(words, sheet, counts, more, more_counts)
+}
+
+// Writes the listing of marks by DTD text and a format: refuses with 1, 20 to 22, 4, 7, 19, 8, 9, 10, 11 or 12 and leaves the result as it was, or answers 0 and the
+// listing's length, writes it into the result and keeps the rest. All else is 0.
+#[no_mangle]
+pub extern "C" fn finnedscarf_write_listing(
+    text: &[u8],
+    format: u16,
+    marks: &[u8],
+    out: &mut [u8],
+) -> Outcome
+    ensures { λ r. ⌜ Told (Placed (λ n p. WriteAnswer (now (text .entry)) format (now (marks .entry)) (now (out .entry)) n p (now (out .exit)))) r ⌝ }
+{
+    let written = write_listing(text, format, marks, out);
+    outcome_of(refused(written.number, written.place))
+}
+
+// Reads a listing by DTD text and a format: refuses with 1, 20 to 22, 4, 7, 19, 8, 9, 25, 26 or 12 and leaves the result as it was, or answers 0, writes the V marks
+// into the result and keeps the rest. All else is 0.
+#[no_mangle]
+pub extern "C" fn finnedscarf_read_listing(
+    text: &[u8],
+    format: u16,
+    listing: &[u8],
+    out: &mut [u8],
+) -> Outcome
+    ensures { λ r. ⌜ Told (Placed (λ n p. ReadAnswer (now (text .entry)) format (now (listing .entry)) (now (out .entry)) n p (now (out .exit)))) r ⌝ }
+{
+    let told = read_listing(text, format, listing, out);
+    outcome_of(refused(told.number, told.place))
 }

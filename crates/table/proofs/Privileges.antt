@@ -195,7 +195,7 @@ star-has gap (Choice a n) e = absurd (omega arith)
 star-has gap (Star a n) e = refl
 
 -- the kind of type that has an edit
-abbrev kindFor : Edit → ℕ
+abbrev pub kindFor : Edit → ℕ
 kindFor (text x) = 1
 kindFor (insert x) = 4
 kindFor (delete x) = 4
@@ -261,14 +261,15 @@ module _ (ws : List ℕ) where
   pub edit-some : (p : ℕ) → p < privileges ws → (e : Edit) × Offers ws e × (privilegeOf ws e ≡ p)
   edit-some p h = let r = edit-of (belongs-some ws p h .1) in (r .0, r .1, r .3)
 
-  -- edits that differ have different privileges
-  offers-kind : (e : Edit) → Offers ws e → kindIn (ruleAt ws (typeOf e)) ≡ kindFor e
+  -- the type of an edit is of that kind
+  pub offers-kind : (e : Edit) → Offers ws e → kindIn (ruleAt ws (typeOf e)) ≡ kindFor e
   offers-kind (text x) h = h .kind-is
   offers-kind (insert x) h = h .kind-is
   offers-kind (delete x) h = h .kind-is
   offers-kind (exchange x) h = h .star .kind-is
   offers-kind (replace x i j) h = h .choice .kind-is
 
+  -- edits that differ have different privileges
   edit-same : (e f : Edit) → Offers ws e → Offers ws f → kindFor e ≡ kindFor f → typeOf e ≡ typeOf f → privilegeOf ws e ≡ privilegeOf ws f → e ≡ f
   unfolding replaceOf
   edit-same (text x) (text y) g h k q r = ap text q

@@ -7,7 +7,8 @@ use mathlib.Core.Option.{Option, none, some}
 use lib.ListN.{length, drop}
 use Rattle.table.proofs.Test.{isLess, isEqual}
 use Rattle.table.proofs.TableTests.{answerOf, answer-of}
-use Rattle.table.specs.Check.{Accepted, TableAnswer, refused, accepted}
+use Rattle.table.specs.Check as table
+use Rattle.table.specs.Check.{Accepted, TableAnswer}
 use Rattle.table.specs.Privilege.{privileges}
 use Rattle.table.specs.declared.Found.{Found}
 use Rattle.table.specs.declared.Found.the-variants.{At as Wrong, Nothing}
@@ -21,7 +22,7 @@ use Rattle.scan.specs.steps.Scanned as scan
 use Rattle.scan.specs.declared.Step.{Step}
 use Rattle.scan.specs.declared.Step.the-variants.{At, Bad, Over}
 use Rattle.names.specs.steps.Names.{FirstMisnamed}
-use Rattle.dtd.specs.Answer.{Large, many-types, many-children, Read, Named, DtdAnswer, misnamed, no-table, too-short, done}
+use Rattle.dtd.specs.Answer.{Large, many-types, many-children, Read, Named, misnamed, no-table, DtdAnswer, refused, too-short, done}
 use Rattle.dtd.proofs.Passing.{stopped-answer, passed-answer, large-answer}
 use Rattle.texts.proofs.Tests.{when}
 use Rattle.texts.proofs.Scanning.{scanAt}
@@ -56,15 +57,15 @@ module _ (t out : List ℕ) (r : scan.Read t) (d : Declaration) (ds : List Decla
   -- its table
   module _ (named : Named t d ds) where
     pub table-refused : {n p : ℕ} → TableAnswer (tableOf 1 (d ∷ ds)) n p → ¬ (n ≡ 0) → DtdAnswer t out 1 n p out
-    table-refused (refused c e y) f = no-table c e named y refl
-    table-refused (accepted e q a) f = absurd (f e)
+    table-refused (table.refused c e y) f = refused (no-table c e named y) refl
+    table-refused (table.accepted e q a) f = absurd (f e)
 
     pub table-short : {n p : ℕ} → TableAnswer (tableOf 1 (d ∷ ds)) n p → n ≡ 0 → length out < length (tableOf 1 (d ∷ ds)) → DtdAnswer t out 1 12 0 out
-    table-short y e l = too-short refl refl named (accepted-at y e) l refl
+    table-short y e l = too-short refl refl (record { named = named; accepted = accepted-at y e }) l refl
 
     pub table-done : {n p : ℕ} → TableAnswer (tableOf 1 (d ∷ ds)) n p → n ≡ 0 → ¬ (length out < length (tableOf 1 (d ∷ ds)))
         → DtdAnswer t out 1 0 (privileges (tableOf 1 (d ∷ ds))) (tableOf 1 (d ∷ ds) ++ drop (length (tableOf 1 (d ∷ ds))) out)
-    table-done y e l = done refl refl named (accepted-at y e) (not-less l) refl
+    table-done y e l = done refl refl (record { named = named; accepted = accepted-at y e }) (not-less l) refl
 
     abbrev tabled : (n p : ℕ) → TableAnswer (tableOf 1 (d ∷ ds)) n p → Right t out
     tabled n p y = when (isEqual n 0)
@@ -74,12 +75,12 @@ module _ (t out : List ℕ) (r : scan.Read t) (d : Declaration) (ds : List Decla
 
   -- its names
   abbrev namedBy : Read t d ds → (f : Found) → FirstMisnamed (d ∷ ds) f → Right t out
-  namedBy y (Wrong k) h = record { number = 22; place = k; after = out; right = misnamed refl y (h .0) (h .1) refl }
+  namedBy y (Wrong k) h = record { number = 22; place = k; after = out; right = refused (misnamed refl y (h .0) (h .1)) refl }
   namedBy y Nothing h = let c = answerOf (tableOf 1 (d ∷ ds)) in tabled (record { read = y; right = h }) (c .number) (c .place) (answer-of (tableOf 1 (d ∷ ds)))
 
   abbrev treeBy : Right t out
-  treeBy = when (isLess 256 (length (rulesOf (d ∷ ds)))) (λ l. record { number = 21; place = length t; after = out; right = large-answer tree (many-types refl x l) })
-      (λ f. when (isLess 1024 (length (kidsOfAll (rulesOf (d ∷ ds))))) (λ l. record { number = 21; place = length t; after = out; right = large-answer tree (many-children refl x l) })
+  treeBy = when (isLess 256 (length (rulesOf (d ∷ ds)))) (λ l. record { number = 21; place = length t; after = out; right = refused (large-answer tree (many-types refl x l)) refl })
+      (λ f. when (isLess 1024 (length (kidsOfAll (rulesOf (d ∷ ds))))) (λ l. record { number = 21; place = length t; after = out; right = refused (large-answer tree (many-children refl x l)) refl })
       (λ g. namedBy (all-read f g) (misnamedOf (d ∷ ds)) (misnamed-of (d ∷ ds))))
 
 module _ (t out : List ℕ) where
@@ -89,8 +90,8 @@ module _ (t out : List ℕ) where
 
   abbrev scannedBy : (n : ℕ) (r : Step) → scan.Scanned t r → Option (Right t out)
   scannedBy n (At e) x = parsedBy (x .1) (parse n t)
-  scannedBy n (Bad k) x = some (record { number = 20; place = k; after = out; right = stopped-answer x })
-  scannedBy n (Over k) x = some (record { number = 21; place = k; after = out; right = passed-answer x })
+  scannedBy n (Bad k) x = some (record { number = 20; place = k; after = out; right = refused (stopped-answer x) refl })
+  scannedBy n (Over k) x = some (record { number = 21; place = k; after = out; right = refused (passed-answer x) refl })
 
   abbrev answerBy : (n : ℕ) → Option ((r : Step) × scan.Scanned t r) → Option (Right t out)
   answerBy n none = none

@@ -34,7 +34,7 @@ impl Schema {
         let name = |of: usize| String::from_utf8(dtd.names[of].clone()).expect("names are ASCII");
         let names = dtd.declarations.iter().map(|(of, _)| name(*of)).collect();
         let declared = declared(text).expect("an accepted text");
-        let runs = (0..declared.count).map(|of| taken_by(&declared, of, LONGEST)).collect();
+        let runs = (0..declared.count()).map(|of| taken_by(&declared, of, LONGEST)).collect();
         Schema { names, declared, runs }
     }
 
@@ -68,7 +68,7 @@ impl Schema {
     /// A run with a child more, fewer or another, or with two that changed places.
     fn near(&self, r: &mut Random, run: &[usize]) -> Vec<usize> {
         let mut near = run.to_vec();
-        let other = r.below(self.declared.count);
+        let other = r.below(self.declared.count());
         let k = r.below(near.len() + 1);
         match r.below(4) {
             1 if k < near.len() => drop(near.remove(k)),
@@ -131,7 +131,7 @@ pub fn documents(r: &mut Random) -> Documents {
     let (dtd, text) = plain(r);
     let schema = Schema::of(&text, &dtd);
     let (mut right, mut wrong) = (Vec::new(), Vec::new());
-    for of in 0..schema.declared.count {
+    for of in 0..schema.declared.count() {
         schema.add(r, of, &mut right, &mut wrong);
     }
     Documents { text, right, wrong }

@@ -214,7 +214,7 @@ fn many_times(r: &mut Random) -> Aimed {
 }
 
 /// So many types, few of them declared: 16 names with marks, in groups of one with marks, and so on.
-fn made(r: &mut Random, types: usize) -> Dtd {
+pub fn made(r: &mut Random, types: usize) -> Dtd {
     let mut particles: Vec<Particle> = (1..=MOST_CHILDREN).map(Particle::name).collect();
     let mut left = types - 1 - MOST_CHILDREN;
     for turn in 0.. {

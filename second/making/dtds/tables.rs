@@ -145,7 +145,7 @@ fn unused(r: &mut Random) -> Aimed {
 }
 
 /// So many choices, each of the next 16 names, and 16 texts.
-fn ladder(r: &mut Random, choices: usize) -> Dtd {
+pub fn ladder(r: &mut Random, choices: usize) -> Dtd {
     let below = |name: usize| Content::Children(names(b'|', name + 1..=name + MOST_CHILDREN));
     let mut declarations: Vec<(usize, Content)> = (0..choices).map(|name| (name, below(name))).collect();
     declarations.extend((choices..choices + MOST_CHILDREN).map(|name| (name, Content::Text(""))));

@@ -6,7 +6,7 @@ use crate::dtd::read_dtd;
 use crate::self_check::expect;
 
 /// The sample schema of document 01 as text.
-const SHOW: &[u8] = include_bytes!("../../../samples/show.dtd");
+pub const SHOW: &[u8] = include_bytes!("../../../samples/show.dtd");
 
 /// More words than any table has.
 const ROOM: usize = 2000;
@@ -218,7 +218,7 @@ fn declared(count: usize, content: &str) -> String {
 }
 
 /// A choice of 16 names, in each of which stands one of 16 others, and so on, so many choices in all.
-fn choices(count: usize) -> String {
+pub fn choices(count: usize) -> String {
     let choice = |k: usize| Vec::from_iter((k + 1..=k + 16).map(|name| format!("n{}", name))).join("|");
     (0..count).map(|k| format!("<!ELEMENT n{} ({})>", k, choice(k))).collect()
 }

@@ -68,7 +68,7 @@ fn names_in(particle: &Particle) -> BTreeSet<usize> {
 fn self_language(r: &mut Random, dtd: &Dtd, longest: usize) {
     let text = text_of(&pieces(r, dtd));
     let declared = declared(&text).expect("a text within the grammar and the limits");
-    let made: Vec<u16> = declared.types[declared.count..].iter().map(|it| it.kind).collect();
+    let made: Vec<u16> = declared.types[declared.count()..].iter().map(|it| it.kind).collect();
     expect(made == made_kinds(dtd), "the order of made types");
     let number = |name: usize| dtd.declarations.iter().position(|of| of.0 == name).expect("a declared name");
     for (of, (_, content)) in dtd.declarations.iter().enumerate() {

@@ -2,9 +2,10 @@
 
 use super::coverage::Coverage;
 use crate::answers::Answer;
+use crate::dtd::declared;
 use crate::dtd::faults::Fault;
-use crate::dtd::{declared, Declared};
 use crate::dtd_case::{DtdCase, CALLS, KIND};
+use crate::format::Format;
 use crate::making::dtds::aimed::ways;
 use crate::making::dtds::tables::first_wrong_name;
 use crate::making::dtds::{known_cases, Known};
@@ -48,7 +49,7 @@ fn self_streamed(case: &DtdCase) {
 fn self_case(case: &DtdCase, known: &Known, coverage: &mut Coverage) {
     let told = (CALLS[0].make)(case);
     let declared = declared(&case.text);
-    let words = declared.as_ref().map_or(Vec::new(), Declared::words);
+    let words = declared.as_ref().map_or(Vec::new(), |declared| declared.words(Format::One));
     self_known(known, &told.answer);
     self_written(case, told.answer.number, &words, &told.written[0]);
     self_streamed(case);

@@ -1,5 +1,5 @@
 -- What is answered once the names are right: the table's own numbers, 12, or the table. Assumes nothing.
-use Prim.Native.Nat.{ℕ, _+_, _*_, _≤_, _<_}
+use Prim.Native.Nat.{ℕ, _≤_, _<_}
 use mathlib.Core.Path.{_≡_}
 use mathlib.Core.List.{List, _++_}
 use lib.ListN.{length, drop}
@@ -23,7 +23,11 @@ pub record Small (ds : List Declaration) : Type 0 where
   pub types-few : length (rulesOf ds) ≤ 256
   pub kids-few : length (kidsOfAll (rulesOf ds)) ≤ 1024
 
+-- no type below t has over 16 children
+abbrev pub Few : List ℕ → ℕ → Type 0
+Few ws t = (j : ℕ) → j < t → countAt ws j ≤ 16
+
 -- V, if no type has over 16 children; else the lowest that has
 abbrev pub TotalRead : List ℕ → Total → Type 0
-TotalRead ws (Wide t) = (t < types ws) × (16 < countAt ws t) × ((j : ℕ) → j < t → countAt ws j ≤ 16)
-TotalRead ws (Sum v) = (v ≡ privileges ws) × (v ≤ 240 * types ws)
+TotalRead ws (Wide t) = (t < types ws) × (16 < countAt ws t) × Few ws t
+TotalRead ws (Sum v) = (v ≡ privileges ws) × Few ws (types ws)

@@ -1,7 +1,8 @@
 -- The loop has put the bytes passed. Assumes nothing.
 use borrow.Author.Needs.{needs}
 use Rattle.lines.specs.Text.{raised}
-use Rattle.lines.proofs.Texts.{raised-length, Filled, filled-start, filled-more, filled-length, filled-end}
+use Rattle.runs.proofs.Texts.{Filled, filled-start, filled-more, filled-length, filled-end}
+use Rattle.lines.proofs.Raised.{raised-length}
 use Prim.Native.Nat.{ℕ, _+_, _-_}
 use mathlib.Core.Path.{sym}
 use denote.Ref.{now}

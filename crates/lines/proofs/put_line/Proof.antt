@@ -5,7 +5,7 @@ use denote.Ref.{now}
 use native.Mathlib.Omega.{arith}
 use lib.ListN.{length-append}
 use Rattle.lines.specs.Text.{numbers, marksText}
-use Rattle.lines.proofs.Texts.{puts-then, puts-as}
+use Rattle.runs.proofs.Texts.{puts-then, puts-as}
 use Rattle.lines.proofs.Decimals.{raised-none}
 use Rattle.lines.proofs.Spaced.{one-raisable, numbers-length, marks-length}
 use Rattle.lines.proofs.put_line.Statement.{statement}

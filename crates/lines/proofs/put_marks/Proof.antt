@@ -2,7 +2,7 @@
 use borrow.Author.Needs.{needs}
 use denote.Ref.{now}
 use native.Mathlib.Omega.{arith}
-use Rattle.lines.proofs.Texts.{puts-none, puts-then, puts-as}
+use Rattle.runs.proofs.Texts.{puts-none, puts-then, puts-as}
 use Rattle.lines.proofs.Spaced.{one-raisable, marks-none, marks-some}
 use Rattle.lines.proofs.put_marks.Statement.{statement}
 use Rattle.lines.proofs.put_marks.Tie as tie

@@ -1,7 +1,7 @@
 -- The digits are the fewest that hold the number, and are put as they are. Assumes nothing.
 
 use Rattle.lines.specs.Text.{raised, decimal}
-use Rattle.lines.proofs.Texts.{puts-as}
+use Rattle.runs.proofs.Texts.{puts-as}
 use lib.ListN.{length, take}
 use mathlib.Core.Path.{_≡_, sym, ap, _∙_}
 use Prim.Native.Nat.{ℕ, _-_}

@@ -1,7 +1,7 @@
 -- The blank is put, and the digits behind it. Assumes nothing.
 use borrow.Author.Needs.{needs}
 use native.Mathlib.Omega.{arith}
-use Rattle.lines.proofs.Texts.{puts-then}
+use Rattle.runs.proofs.Texts.{puts-then}
 use Rattle.lines.proofs.Spaced.{one-raisable}
 use Rattle.lines.proofs.put_spaced.Statement.{statement}
 use Rattle.lines.proofs.put_spaced.Tie as tie

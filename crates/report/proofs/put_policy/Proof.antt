@@ -5,7 +5,7 @@ use mathlib.Core.List.{[], _∷_, _++_}
 use native.Mathlib.Omega.{arith}
 use lib.ListN.{length-append}
 use Rattle.lines.specs.Text.{line}
-use Rattle.lines.proofs.Texts.{puts-then}
+use Rattle.runs.proofs.Texts.{puts-then}
 use Rattle.lines.proofs.Spaced.{line-length}
 use Rattle.report.specs.Report.{marksWord, verdictWord, answerLine, numbersOf, VerdictLine, refused, judged}
 use Rattle.verdict.proofs.Breakers.{Fits, verdict-fits}

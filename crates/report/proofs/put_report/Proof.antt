@@ -11,7 +11,7 @@ use Rattle.table.specs.Privilege.{privileges}
 use Rattle.table.specs.Check.{Accepted, TableAnswer}
 use Rattle.policy.proofs.Policies.{table-accepted}
 use Rattle.lines.specs.Text.{line}
-use Rattle.lines.proofs.Texts.{puts-as, puts-then}
+use Rattle.runs.proofs.Texts.{puts-as, puts-then}
 use Rattle.lines.proofs.Spaced.{line-length}
 use Rattle.report.specs.File.{lentOf, tableOf}
 use Rattle.report.specs.Report.{tableWord, answerLine, PolicyLines, refused}

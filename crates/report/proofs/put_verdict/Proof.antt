@@ -8,7 +8,7 @@ use mathlib.Core.List.{List, []}
 use lib.ListN.{length, take}
 use lib.Seq.{length-take-le}
 use Rattle.lines.specs.Text.{line}
-use Rattle.lines.proofs.Texts.{puts-as}
+use Rattle.runs.proofs.Texts.{puts-as}
 use Rattle.report.specs.Report.{verdictWord, numbersOf}
 use Rattle.report.proofs.put_verdict.Statement.{statement}
 use Rattle.report.proofs.put_verdict.Tie as tie

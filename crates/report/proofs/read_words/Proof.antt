@@ -6,7 +6,7 @@ use denote.Ref.{now}
 use native.Mathlib.Nat.{zero-add}
 use native.Mathlib.Omega.{arith}
 use lib.ListN.{length}
-use Rattle.lines.proofs.Texts.{Filled, filled-start, filled-more, filled-length, filled-end, puts-first}
+use Rattle.runs.proofs.Texts.{Filled, filled-start, filled-more, filled-length, filled-end, puts-first}
 use Rattle.report.specs.File.{wordsOf}
 use Rattle.report.proofs.Files.{words-size, words-at}
 use Rattle.report.proofs.read_words.Statement.{statement}

@@ -5,7 +5,7 @@ use mathlib.Core.Path.{refl, sym, subst}
 use mathlib.Core.List.{List, [], _∷_}
 use denote.Ref.{now}
 use native.Mathlib.Omega.{arith}
-use Rattle.lines.proofs.Texts.{puts-first}
+use Rattle.runs.proofs.Texts.{puts-first}
 use Rattle.lines.proofs.Spaced.{line-length}
 use Rattle.report.specs.Report.{tableWord, Report, long}
 use Rattle.report.proofs.report.Statement.{statement}

@@ -2,7 +2,7 @@
 use Prim.Native.Nat.{ℕ, _≤_}
 use mathlib.Core.List.{List}
 use lib.ListN.{length}
-use Rattle.lines.specs.steps.Putting.{Puts}
+use Rattle.runs.specs.Putting.{Puts}
 
 -- a text that is P was put at its place, in n bytes at most
 pub record Adds (P : List ℕ → Type 0) (n : ℕ) (before : List ℕ) (at : ℕ) (after : List ℕ) (r : ℕ) : Type 0 where

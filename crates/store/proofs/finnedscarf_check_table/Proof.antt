@@ -20,7 +20,7 @@ returns c =
     let checked = c .before .before .check-table in
     record {
       answer = refusal (checked .result .number) (checked .result .place);
-      promised = record { table = checked .ensures; rest = refl };
+      promised = record { placed = checked .ensures; rest = refl };
       is = c .outcome-of .ensures ∙ ap outcomeOf (c .before .refused .ensures);
     }
 

@@ -23,7 +23,7 @@ returns c =
     let read = c .before .before .before .before .read-dtd in
     record {
       answer = refusal (read .result .number) (read .result .place);
-      promised = record { read = read .ensures; rest = refl };
+      promised = record { placed = read .ensures; rest = refl };
       is = c .outcome-of .ensures ∙ ap outcomeOf (c .before .refused .ensures);
     }
 

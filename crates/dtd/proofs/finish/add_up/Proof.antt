@@ -1,15 +1,16 @@
-use Prim.Native.Nat.{ℕ, _-_, _*_, _≤_, _<_}
+use Prim.Native.Nat.{_-_, _≤_}
 use native.Mathlib.Omega.{arith}
-use mathlib.Core.Path.{_≡_, _∙_}
+use mathlib.Core.Path.{_≡_, _∙_, subst}
 use Rattle.table.specs.Sum.{sumBelow}
-use Rattle.table.specs.Words.{countAt}
+use Rattle.table.specs.Words.{types, countAt}
 use Rattle.table.specs.Privilege.{privilegesAt}
-use Rattle.dtd.proofs.Finishing.{privileges-few, sum-step, sum-none, sum-all, few-more}
+use Rattle.dtd.specs.steps.Last.{Few}
+use Rattle.dtd.proofs.Finishing.{sum-few, running-few, sum-step, sum-none, sum-all, few-more}
 use Rattle.dtd.proofs.finish.add_up.Statement.{statement}
 use Rattle.dtd.proofs.finish.add_up.Tie as tie
 
 abbrev Inv-loop : tie.InvT-loop
-Inv-loop words e v₀ t₀ v t = (v ≡ sumBelow (privilegesAt words) t) × (v ≤ 240 * t) × (t ≤ e) × ((j : ℕ) → j < t → countAt words j ≤ 16)
+Inv-loop words e v₀ t₀ v t = (v ≡ sumBelow (privilegesAt words) t) × (t ≤ e) × Few words t
 
 abbrev μ-loop : tie.MeasureT-loop
 μ-loop words e v₀ t₀ v t = e - t
@@ -20,7 +21,7 @@ types-requires c κs = tt
 
 -- src/finish.rt:31:5
 loop-holds : tie.Need-loop-holds Inv-loop μ-loop
-loop-holds c = (sum-none (privilegesAt (c .before .before .args .words .now)), omega arith, omega arith, λ j h. absurd (omega arith))
+loop-holds c = (sum-none (privilegesAt (c .before .before .args .words .now)), omega arith, λ j h. absurd (omega arith))
 
 -- src/finish.rt:32:12
 record-word-requires : tie.Need-record-word-requires Inv-loop μ-loop
@@ -35,7 +36,7 @@ returns c =
     let w = c .before .record-word .ensures in
     let l = c .before .before .before .loop in
     let z = c .before .before .before .before .types .ensures .is in
-    (omega (arith, z), omega (arith, w .is), l .inv .3)
+    (omega (arith, z), omega (arith, w .is), l .inv .2)
 
 -- src/finish.rt:35:14
 privileges-at-requires : tie.Need-privileges-at-requires Inv-loop μ-loop
@@ -50,14 +51,15 @@ add-v c =
     let p = c .privileges-at .ensures in
     let l = c .before .before .before .before .loop in
     let z = c .before .before .before .before .before .types .ensures .small in
-    omega (arith, p .small, l .inv .1, l .inv .2)
+    let ws = c .before .before .before .before .before .before .before .args .words .now in
+    omega (arith, p .small, l .inv .0, l .inv .1, sum-few ws (l .t) (l .inv .2), running-few ws (l .t) (l .inv .2))
 
 -- src/finish.rt:36:9
 add-t : tie.Need-add-t Inv-loop μ-loop
 add-t c =
     let l = c .before .before .before .before .loop in
     let z = c .before .before .before .before .before .types .ensures .small in
-    omega (arith, l .inv .2)
+    omega (arith, l .inv .1)
 
 -- src/finish.rt:31:5
 loop-less : tie.Need-loop-less Inv-loop μ-loop
@@ -71,8 +73,7 @@ loop-again c =
     let ws = c .before .before .before .before .before .before .before .args .words .now in
     let w = c .before .before .record-word .ensures in
     let n : countAt ws (l .t) ≤ 16 = omega (arith, w .is) in
-    let f = privileges-few ws (l .t) (c .before .before .before .before .before .before .before .pre .0) n in
-    (sum-step (privilegesAt ws) (l .t) (l .v) (c .privileges-at .result) (l .inv .0) (p .is), omega (arith, p .is, l .inv .1), omega arith, few-more ws (l .t) (l .inv .3) n)
+    (sum-step (privilegesAt ws) (l .t) (l .v) (c .privileges-at .result) (l .inv .0) (p .is), omega arith, few-more ws (l .t) (l .inv .2) n)
 
 -- src/finish.rt:24:1
 returns-2 : tie.Need-returns-2 Inv-loop μ-loop
@@ -80,7 +81,8 @@ returns-2 c =
     let l = c .before .loop in
     let z = c .before .before .types .ensures .is in
     let ws = c .before .before .before .before .args .words .now in
-    (l .inv .0 ∙ sum-all ws (l .t) (omega (arith, z, l .inv .2)), omega (arith, z, l .inv .1, l .inv .2))
+    let e : l .t ≡ types ws = omega (arith, z, l .inv .1) in
+    (l .inv .0 ∙ sum-all ws (l .t) e, subst (Few ws) e (l .inv .2))
 
 pub add-up-spec : {M : Type 1} → statement M
 add-up-spec =

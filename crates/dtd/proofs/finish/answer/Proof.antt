@@ -16,7 +16,7 @@ returns c = table-refused (c .before .before .check-table .ensures) (omega arith
 returns-2 : tie.Need-returns-2
 returns-2 c = out-short (c .before .before .before .check-table .ensures) (omega arith) (omega arith)
 
--- src/finish.rt:64:5
+-- src/finish.rt:67:5
 copy-requires : tie.Need-copy-requires
 copy-requires c κs = search needs
 

@@ -1,0 +1,3 @@
+-- What the building blocks do, step by step; a reader of the promises needs none of it.
+pub mod Booked
+pub mod Entered

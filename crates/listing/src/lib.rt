@@ -1,0 +1,1 @@
+// What a line and a listing are, and what can be wrong with one: definitions and their laws, no code.

@@ -1,0 +1,2 @@
+-- What the building blocks do, step by step; a reader of the promises needs none of it.
+pub mod Opened

@@ -1,0 +1,4 @@
+-- What the building blocks do, step by step; a reader of the promises needs none of it.
+pub mod Matching
+pub mod Edits
+pub mod Reading

@@ -1,0 +1,3 @@
+-- Laws of the definitions of specs/.
+pub mod Texts
+pub mod Parts
