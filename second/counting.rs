@@ -11,9 +11,11 @@ use crate::maps_case::{self, MapsCase};
 use crate::policy_case::{self, PolicyCase};
 use crate::roles_case::{self, RolesCase};
 use crate::sheet_case::{self, SheetCase};
-use crate::situations::{
-    carrying, maps, reading, sheets, sums, writing, Situations, OF_CHAINS, OF_COUNTS, OF_FORMAT_TWO, OF_ROLES,
-};
+use crate::situations::reading::OfReading;
+use crate::situations::sheets::OfSheets;
+use crate::situations::sums::OfSums;
+use crate::situations::writing::OfWriting;
+use crate::situations::{carrying, maps, Aimed, Situations, OF_CHAINS, OF_COUNTS, OF_FORMAT_TWO, OF_ROLES};
 use crate::sum_case::{self, SumCase};
 use std::collections::BTreeMap;
 
@@ -209,10 +211,10 @@ impl Overview {
         let roles = Found::new(OF_ROLES);
         let [maps, large_maps] = [maps::USUAL, maps::LARGE].map(Found::new);
         let [carrying, large_carrying] = [carrying::USUAL, carrying::LARGE].map(Found::new);
-        let [sheets, large_sheets] = [sheets::USUAL, sheets::LARGE].map(Found::new);
-        let [sums, large_sums] = [sums::USUAL, sums::LARGE].map(Found::new);
-        let [writing, large_writing] = [writing::USUAL, writing::LARGE].map(Found::new);
-        let [reading, large_reading] = [reading::USUAL, reading::LARGE].map(Found::new);
+        let [sheets, large_sheets] = [OfSheets::USUAL, OfSheets::LARGE].map(Found::new);
+        let [sums, large_sums] = [OfSums::USUAL, OfSums::LARGE].map(Found::new);
+        let [writing, large_writing] = [OfWriting::USUAL, OfWriting::LARGE].map(Found::new);
+        let [reading, large_reading] = [OfReading::USUAL, OfReading::LARGE].map(Found::new);
         let mut overview = Overview {
             all,
             of_two,

@@ -10,6 +10,7 @@ mod counts;
 mod leading;
 mod listed;
 pub mod listing;
+pub mod listings;
 pub mod maps;
 mod mends;
 mod month;
@@ -38,6 +39,22 @@ pub struct Situations<C: 'static> {
     pub of: &'static str,
     pub names: fn() -> Vec<&'static str>,
     pub found: fn(&C) -> Vec<&'static str>,
+}
+
+/// The situations of cases that are made for them.
+pub trait Aimed {
+    type Case: 'static;
+
+    const USUAL: Situations<Self::Case>;
+
+    /// Of large cases.
+    const LARGE: Situations<Self::Case>;
+
+    /// Whether this situation is one of faults.
+    fn is_of_faults(name: &str) -> bool;
+
+    /// Whether a case is in the situation of this name.
+    fn is_in(name: &'static str) -> impl Fn(&Self::Case) -> bool;
 }
 
 /// Request 5: of calls on all roles.

@@ -7,7 +7,7 @@ use super::damage::refused_words;
 use super::schemas::Schema;
 use crate::calls::TABLE;
 use crate::format::Format;
-use crate::situations::Situations;
+use crate::situations::Aimed;
 
 pub const FORMATS: [Format; 2] = [Format::One, Format::Two];
 
@@ -18,10 +18,11 @@ const MOST_WORDS: usize = 128;
 pub trait Base: Sized {
     type Case: 'static;
 
+    /// Of the situations that they are made for.
+    type Aimed: Aimed<Case = Self::Case>;
+
     /// One of so many cases is a large one.
     const TURN: usize;
-
-    const USUAL: Situations<Self::Case>;
 
     fn of(r: &mut Random, format: Format) -> Self;
 
@@ -34,12 +35,6 @@ pub trait Base: Sized {
 
     fn large_case(r: &mut Random, turn: usize) -> Self::Case;
 
-    /// Whether this situation is one of faults.
-    fn is_of_faults(situation: &str) -> bool;
-
-    /// Whether a case is in this situation.
-    fn is_in(situation: &'static str) -> impl Fn(&Self::Case) -> bool;
-
     /// With faults, or without.
     fn case(&self, r: &mut Random, is_spoilt: bool) -> Self::Case {
         let mut case = self.sound_case(r);
@@ -51,7 +46,7 @@ pub trait Base: Sized {
 
     /// One that may be in this situation.
     fn case_for(&self, r: &mut Random, situation: &'static str) -> Self::Case {
-        self.case(r, Self::is_of_faults(situation))
+        self.case(r, Self::Aimed::is_of_faults(situation))
     }
 }
 
@@ -88,7 +83,8 @@ pub fn refused_table_case<B: OfTable>(r: &mut Random, turn: usize) -> B::Case {
 
 /// A small case in this situation: of each base some faults are tried, where it is one of faults.
 fn aimed_case<B: Base>(r: &mut Random, situation: &'static str) -> B::Case {
-    let (tries, meets) = (if B::is_of_faults(situation) { 4 } else { 1 }, B::is_in(situation));
+    let tries = if B::Aimed::is_of_faults(situation) { 4 } else { 1 };
+    let meets = B::Aimed::is_in(situation);
     loop {
         let format = r.pick(&FORMATS);
         let base = B::of(r, format);
@@ -102,7 +98,7 @@ fn aimed_case<B: Base>(r: &mut Random, situation: &'static str) -> B::Case {
 /// least often so far.
 pub fn cases<B: Base>(seed: u64, count: usize) -> impl Iterator<Item = B::Case> {
     let mut r = Random(seed);
-    let mut aims = Aims::new(B::USUAL);
+    let mut aims = Aims::new(B::Aimed::USUAL);
     (0..count).map(move |k| {
         let case = match k % 5 {
             _ if k % B::TURN == B::TURN - 1 => B::large_case(&mut r, k / B::TURN),

@@ -13,8 +13,7 @@ use super::shapes::{dress, usual_shape};
 use crate::format::Format;
 use crate::sheet::{breaks, COUNTS};
 use crate::sheet_case::SheetCase;
-use crate::situations::sheets::{is_in, is_of_faults, USUAL};
-use crate::situations::Situations;
+use crate::situations::sheets::OfSheets;
 use crate::table::{total, Table, Type, CHOICE, SEQUENCE, STAR};
 use faults::spoil;
 use large::large_case;
@@ -161,9 +160,9 @@ pub struct Month {
 impl Base for Month {
     type Case = SheetCase;
 
-    const TURN: usize = 23;
+    type Aimed = OfSheets;
 
-    const USUAL: Situations<SheetCase> = USUAL;
+    const TURN: usize = 23;
 
     fn of(r: &mut Random, format: Format) -> Month {
         let count = role_count(r);
@@ -193,14 +192,6 @@ impl Base for Month {
 
     fn large_case(r: &mut Random, turn: usize) -> SheetCase {
         large_case(r, turn)
-    }
-
-    fn is_of_faults(situation: &str) -> bool {
-        is_of_faults(situation)
-    }
-
-    fn is_in(situation: &'static str) -> impl Fn(&SheetCase) -> bool {
-        is_in(situation)
     }
 }
 

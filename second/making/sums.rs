@@ -11,8 +11,7 @@ use super::sheets::{longer, roles, small_schema};
 use crate::format::Format;
 use crate::sheet::{done, month_sheet, Sheet, COUNTS};
 use crate::situations::sum::Pair;
-use crate::situations::sums::{is_in, is_of_faults, USUAL};
-use crate::situations::Situations;
+use crate::situations::sums::OfSums;
 use crate::sum_case::SumCase;
 use crate::table::Table;
 use faults::spoil;
@@ -100,9 +99,9 @@ impl Sheets {
 impl Base for Sheets {
     type Case = SumCase;
 
-    const TURN: usize = 55;
+    type Aimed = OfSums;
 
-    const USUAL: Situations<SumCase> = USUAL;
+    const TURN: usize = 55;
 
     fn of(r: &mut Random, format: Format) -> Sheets {
         let schema = small_schema(r, format, MOST);
@@ -129,14 +128,6 @@ impl Base for Sheets {
 
     fn large_case(r: &mut Random, turn: usize) -> SumCase {
         large_case(r, turn)
-    }
-
-    fn is_of_faults(situation: &str) -> bool {
-        is_of_faults(situation)
-    }
-
-    fn is_in(situation: &'static str) -> impl Fn(&SumCase) -> bool {
-        is_in(situation)
     }
 }
 

@@ -26,6 +26,9 @@ pub struct Listing<'a> {
 /// A situation of such a call: its name, and whether a case is in it.
 pub type Situation = (&'static str, fn(&Listing) -> bool);
 
+/// A situation with the number that it comes with, or one of them.
+pub type Numbered = (usize, Situation);
+
 fn of(case: &ListingCase, call: fn(&Listed, &[u8], &mut [u8]) -> Outcome) -> Listing<'_> {
     let mut out = case.out.clone();
     let (listed, outcome) = match Listed::of(&case.text, case.format) {
@@ -124,24 +127,4 @@ impl Listing<'_> {
     pub fn at(&self) -> (usize, usize) {
         (lines(&self.case.given[..self.answer.place]).count(), self.lines().len())
     }
-}
-
-/// A situation with the number that it comes with, or one of them.
-pub type Numbered = (usize, Situation);
-
-pub fn situations_of(numbered: &[Numbered]) -> Vec<Situation> {
-    numbered.iter().map(|own| own.1).collect()
-}
-
-/// The number that the situation of this name comes with.
-pub fn number_in(numbered: &[Numbered], name: &str) -> Option<usize> {
-    numbered.iter().find(|(_, situation)| situation.0 == name).map(|own| own.0)
-}
-
-pub fn names_of(situations: &[Situation]) -> Vec<&'static str> {
-    situations.iter().map(|situation| situation.0).collect()
-}
-
-pub fn found_in(it: &Listing, situations: &[Situation]) -> Vec<&'static str> {
-    situations.iter().filter(|situation| (situation.1)(it)).map(|situation| situation.0).collect()
 }

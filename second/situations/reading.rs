@@ -9,52 +9,26 @@ mod names;
 mod orders;
 mod results;
 
-use super::listing::{found_in, names_of, number_in, situations_of, Listing, Numbered, Situation};
-use super::{listed, texts, Situations};
+use super::listing::{Listing, Numbered, Situation};
+use super::listings::OfListings;
 use crate::listing_case::ListingCase;
 
-/// Of lines that are not one of these.
-const OF_LINES: [&[Situation]; 3] = [bytes::SITUATIONS, names::SITUATIONS, edits::SITUATIONS];
+pub struct OfReading;
 
-/// Of the format and the text, and of the listing and the result as a whole.
-fn numbered() -> Vec<Numbered> {
-    [texts::SITUATIONS, faults::SITUATIONS].concat()
-}
+impl OfListings for OfReading {
+    const OF: [&'static str; 2] = ["reading", "reading with large texts"];
 
-fn of_faults() -> Vec<Situation> {
-    [&situations_of(&numbered()), &OF_LINES.concat(), orders::SITUATIONS].concat()
-}
+    const OF_RESULTS: &'static [Situation] = results::SITUATIONS;
 
-fn situations() -> Vec<Situation> {
-    [listed::SITUATIONS, results::SITUATIONS, &of_faults()].concat()
-}
+    const OF_FAULTS: &'static [Numbered] = faults::SITUATIONS;
 
-pub const USUAL: Situations<ListingCase> = Situations {
-    of: "reading",
-    names: || names_of(&situations()),
-    found: |case| found_in(&Listing::reading(case), &situations()),
-};
+    /// First of lines that are not one of these.
+    const OF_LINES: &'static [&'static [Situation]] =
+        &[bytes::SITUATIONS, names::SITUATIONS, edits::SITUATIONS, orders::SITUATIONS];
 
-/// Of long listings, or of as many privileges or types as there may be.
-pub const LARGE: Situations<ListingCase> = Situations {
-    of: "reading with large texts",
-    names: || names_of(large::SITUATIONS),
-    found: |case| found_in(&Listing::reading(case), large::SITUATIONS),
-};
+    const OF_LARGE: &'static [Situation] = large::SITUATIONS;
 
-/// Whether this situation is one of faults.
-pub fn is_of_faults(name: &str) -> bool {
-    names_of(&of_faults()).contains(&name)
-}
-
-/// The number that the situation of this name comes with, where it is not one of done calls or of a line.
-pub fn number_of(name: &str) -> Option<usize> {
-    number_in(&numbered(), name)
-}
-
-/// Whether a case is in the situation of this name.
-pub fn is_in(name: &str) -> impl Fn(&ListingCase) -> bool {
-    let situation = situations().into_iter().find(|situation| situation.0 == name);
-    let holds = situation.expect("a situation of that name").1;
-    move |case| holds(&Listing::reading(case))
+    fn call(case: &ListingCase) -> Listing<'_> {
+        Listing::reading(case)
+    }
 }

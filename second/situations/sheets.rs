@@ -9,7 +9,7 @@ mod sizes;
 
 use super::leading;
 use super::month::{Month, Situation};
-use super::Situations;
+use super::{Aimed, Situations};
 use crate::sheet_case::SheetCase;
 
 /// Of calls that are done.
@@ -20,22 +20,6 @@ fn situations() -> Vec<Situation> {
     [&OF_ROLES.concat(), faults::SITUATIONS].concat()
 }
 
-pub const USUAL: Situations<SheetCase> = Situations {
-    of: "sheets",
-    names: || [names_of(&situations()), leading::names()].concat(),
-    found: |case| {
-        let month = Month::of(case);
-        [found_in(&month, &situations()), leading::found(&month.leading())].concat()
-    },
-};
-
-/// Of as many privileges as there may be, or of more than a byte counts.
-pub const LARGE: Situations<SheetCase> = Situations {
-    of: "sheets with large tables",
-    names: || names_of(large::SITUATIONS),
-    found: |case| found_in(&Month::of(case), large::SITUATIONS),
-};
-
 fn names_of(situations: &[Situation]) -> Vec<&'static str> {
     situations.iter().map(|situation| situation.0).collect()
 }
@@ -44,16 +28,36 @@ fn found_in(month: &Month, situations: &[Situation]) -> Vec<&'static str> {
     situations.iter().filter(|situation| (situation.1)(month)).map(|situation| situation.0).collect()
 }
 
-/// Whether this situation is one of faults.
-pub fn is_of_faults(name: &str) -> bool {
-    names_of(faults::SITUATIONS).contains(&name)
-}
+pub struct OfSheets;
 
-/// Whether a case is in the situation of this name.
-pub fn is_in(name: &'static str) -> impl Fn(&SheetCase) -> bool {
-    let situation = situations().into_iter().find(|situation| situation.0 == name);
-    move |case| {
-        let month = Month::of(case);
-        situation.map_or_else(|| leading::found(&month.leading()).contains(&name), |it| (it.1)(&month))
+impl Aimed for OfSheets {
+    type Case = SheetCase;
+
+    const USUAL: Situations<SheetCase> = Situations {
+        of: "sheets",
+        names: || [names_of(&situations()), leading::names()].concat(),
+        found: |case| {
+            let month = Month::of(case);
+            [found_in(&month, &situations()), leading::found(&month.leading())].concat()
+        },
+    };
+
+    /// Of as many privileges as there may be, or of more than a byte counts.
+    const LARGE: Situations<SheetCase> = Situations {
+        of: "sheets with large tables",
+        names: || names_of(large::SITUATIONS),
+        found: |case| found_in(&Month::of(case), large::SITUATIONS),
+    };
+
+    fn is_of_faults(name: &str) -> bool {
+        names_of(faults::SITUATIONS).contains(&name)
+    }
+
+    fn is_in(name: &'static str) -> impl Fn(&SheetCase) -> bool {
+        let situation = situations().into_iter().find(|situation| situation.0 == name);
+        move |case| {
+            let month = Month::of(case);
+            situation.map_or_else(|| leading::found(&month.leading()).contains(&name), |it| (it.1)(&month))
+        }
     }
 }

@@ -10,8 +10,9 @@ use super::{bytes, edits, lent, lines, marks, names, orders, Mailed};
 use crate::format::Format;
 use crate::listing::lines as lines_of;
 use crate::listing_case::{ListingCase, OF_TEXT};
-use crate::situations::reading::{is_in, is_of_faults, number_of, USUAL};
-use crate::situations::Situations;
+use crate::situations::listings::OfListings;
+use crate::situations::reading::OfReading;
+use crate::situations::Aimed;
 use crate::table::{total, ALLOWED, FORBIDDEN};
 
 /// What a case is made of.
@@ -105,9 +106,9 @@ impl Reading {
 impl Base for Reading {
     type Case = ListingCase;
 
-    const TURN: usize = 68;
+    type Aimed = OfReading;
 
-    const USUAL: Situations<ListingCase> = USUAL;
+    const TURN: usize = 68;
 
     fn of(r: &mut Random, format: Format) -> Reading {
         Reading(small(r, format))
@@ -138,7 +139,7 @@ impl Base for Reading {
     fn case_for(&self, r: &mut Random, situation: &'static str) -> ListingCase {
         let (way, two) = (ways().into_iter().find(|way| way.0 == situation), two_ways(situation));
         let mut case = if way.is_some() && r.one_in(2) { self.sound_case(r) } else { self.full_case(r) };
-        match (way, two, number_of(situation)) {
+        match (way, two, OfReading::number_of(situation)) {
             (Some(way), ..) => spoil_lines(r, &self.0, &way, &mut case.given),
             (_, Some(two), _) => spoil_parts(r, &self.0, &two, &mut case.given),
             (_, _, Some(number)) if OF_TEXT.contains(&number) => {
@@ -148,7 +149,7 @@ impl Base for Reading {
                 case = self.sound_case(r);
                 spoil_room(r, &self.0, &mut case);
             }
-            _ => return self.case(r, Self::is_of_faults(situation)),
+            _ => return self.case(r, OfReading::is_of_faults(situation)),
         }
         if r.one_in(8) {
             spoil_room(r, &self.0, &mut case);
@@ -162,13 +163,5 @@ impl Base for Reading {
 
     fn large_case(r: &mut Random, turn: usize) -> ListingCase {
         large_read(r, turn)
-    }
-
-    fn is_of_faults(situation: &str) -> bool {
-        is_of_faults(situation)
-    }
-
-    fn is_in(situation: &'static str) -> impl Fn(&ListingCase) -> bool {
-        is_in(situation)
     }
 }

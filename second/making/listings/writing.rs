@@ -9,8 +9,8 @@ use super::{bytes, lent, marks, Mailed};
 use crate::format::Format;
 use crate::listing::lines;
 use crate::listing_case::ListingCase;
-use crate::situations::writing::{is_in, is_of_faults, number_of, USUAL};
-use crate::situations::Situations;
+use crate::situations::listings::OfListings;
+use crate::situations::writing::OfWriting;
 use crate::table::{total, UNSET};
 
 /// What a case is made of.
@@ -76,9 +76,9 @@ fn spoil_from(r: &mut Random, number: usize, base: &Mailed, case: &mut ListingCa
 impl Base for Writing {
     type Case = ListingCase;
 
-    const TURN: usize = 31;
+    type Aimed = OfWriting;
 
-    const USUAL: Situations<ListingCase> = USUAL;
+    const TURN: usize = 31;
 
     fn of(r: &mut Random, format: Format) -> Writing {
         Writing(small(r, format))
@@ -103,7 +103,7 @@ impl Base for Writing {
     /// With a fault for the number that the situation comes with.
     fn case_for(&self, r: &mut Random, situation: &'static str) -> ListingCase {
         let mut case = self.sound_case(r);
-        match number_of(situation) {
+        match OfWriting::number_of(situation) {
             None => (),
             Some(number) if NUMBERS.contains(&number) => spoil_from(r, number, &self.0, &mut case),
             Some(number) => return refused(r, self, self.0.format, number),
@@ -117,13 +117,5 @@ impl Base for Writing {
 
     fn large_case(r: &mut Random, turn: usize) -> ListingCase {
         large_write(r, turn)
-    }
-
-    fn is_of_faults(situation: &str) -> bool {
-        is_of_faults(situation)
-    }
-
-    fn is_in(situation: &'static str) -> impl Fn(&ListingCase) -> bool {
-        is_in(situation)
     }
 }
