@@ -2,6 +2,7 @@
  * Writes the largest listing that there is, and reads it back: in format 2, of 16 choices of the same 16 kinds, all with names of 32 bytes, 4,096
  * lines of 109 bytes, which are more bytes than 16 bits count. In format 1 it has 3,840 lines. The lines are made here too, so that it is known what
  * comes of each call. Allowed and forbidden take turns by the sum of the three positions: a mark read at a place 16 or 256 further on is seen.
+ * Then the same over the largest schema: as many types, child entries and bytes of names as there may be. And formats that are none, in 16 bits.
  */
 #include <stdio.h>
 #include <string.h>
@@ -11,7 +12,10 @@
 enum { CHOICES = 16, KINDS = 16, PRIVILEGES = CHOICES * KINDS * KINDS, NAME = 32, LINE = 109, LENGTH = PRIVILEGES * LINE, KEPT = 7 };
 enum { FIRST_PRIVILEGES = CHOICES * KINDS * (KINDS - 1), FIRST_LENGTH = FIRST_PRIVILEGES * LINE };
 
-static char text[16384];
+/* The largest schema: 64 sequences of 16, each of the next one and of texts, and 192 texts. */
+enum { SEQUENCES = 64, TEXTS = 192, TEXT_LINE = 40 };
+
+static char text[65536];
 static size_t text_length;
 
 /* The marks and the lines of a format, and behind these the last one once more. */
@@ -40,6 +44,21 @@ static void write_text(void)
     }
     for (int k = 0; k < KINDS; k++)
         text_length += sprintf(text + text_length, "<!ELEMENT k%031d EMPTY>\n", k);
+}
+
+static void write_largest(void)
+{
+    text_length = 0;
+    for (int t = 0; t < SEQUENCES; t++) {
+        text_length += sprintf(text + text_length, "<!ELEMENT t%031d (", t);
+        for (int k = 0; k < 16; k++) {
+            int child = k == 0 && t < SEQUENCES - 1 ? t + 1 : SEQUENCES + (3 * t + k) % TEXTS;
+            text_length += sprintf(text + text_length, "t%031d%c", child, k < 15 ? ',' : ')');
+        }
+        text_length += sprintf(text + text_length, ">\n");
+    }
+    for (int t = SEQUENCES; t < SEQUENCES + TEXTS; t++)
+        text_length += sprintf(text + text_length, "<!ELEMENT t%031d (#PCDATA)>\n", t);
 }
 
 static void add_line(int c, int i, int j)
@@ -133,6 +152,31 @@ static int is_read(struct reading r)
     return is_told(o, r.number, r.place) && holds(marks, r.number == FINNEDSCARF_DONE ? privileges : 0);
 }
 
+static int is_largest_both_ways(uint16_t format)
+{
+    static uint16_t words[1801];
+    size_t v = finnedscarf_read_dtd((const uint8_t *)text, text_length, words, 1801).place;
+    for (int t = 0; t < TEXTS; t++) {
+        marks[t] = t % 3 ? FINNEDSCARF_ALLOWED : FINNEDSCARF_FORBIDDEN;
+        sprintf(listing + TEXT_LINE * t, "%c t%031d text\n", t % 3 ? '+' : '-', SEQUENCES + t);
+    }
+    memset(out, KEPT, sizeof out);
+    finnedscarf_outcome o = finnedscarf_write_listing((const uint8_t *)text, text_length, format, marks, TEXTS, out, sizeof out);
+    int right = words[1] == 1800 && v == TEXTS && is_told(o, FINNEDSCARF_DONE, TEXT_LINE * TEXTS) && holds(listing, TEXT_LINE * TEXTS);
+    memset(out, KEPT, sizeof out);
+    o = finnedscarf_read_listing((const uint8_t *)text, text_length, format, (const uint8_t *)listing, TEXT_LINE * TEXTS, out, sizeof out);
+    return right && is_told(o, FINNEDSCARF_DONE, 0) && holds(marks, TEXTS);
+}
+
+static int is_no_format(uint16_t format)
+{
+    memset(out, KEPT, sizeof out);
+    finnedscarf_outcome o = finnedscarf_write_listing((const uint8_t *)text, text_length, format, marks, TEXTS, out, sizeof out);
+    int right = is_told(o, FINNEDSCARF_FORMAT, 0);
+    o = finnedscarf_read_listing((const uint8_t *)text, text_length, format, (const uint8_t *)listing, TEXT_LINE * TEXTS, out, sizeof out);
+    return right && is_told(o, FINNEDSCARF_FORMAT, 0) && holds(out, 0);
+}
+
 int main(void)
 {
     write_text();
@@ -147,6 +191,20 @@ int main(void)
         struct reading r = readings[k];
         if (!is_read(r)) {
             printf("tests/many_lines: read in format %d, %zu bytes, a result of %zu: not as known\n", r.format, r.length, r.out);
+            return 1;
+        }
+    }
+    write_largest();
+    for (uint16_t format = 1; format <= 2; format++) {
+        if (!is_largest_both_ways(format)) {
+            printf("tests/many_lines: the largest schema in format %d: not as known\n", format);
+            return 1;
+        }
+    }
+    static const uint16_t none[] = {0, 3, 257, 258, 4097, 4098, 32769, 32770, 65535};
+    for (size_t k = 0; k < sizeof none / sizeof none[0]; k++) {
+        if (!is_no_format(none[k])) {
+            printf("tests/many_lines: format %d is taken\n", none[k]);
             return 1;
         }
     }

@@ -24,6 +24,17 @@ fn text() -> String {
     text
 }
 
+/// The largest schema: as many types, child entries and bytes of names as there may be, in 64 sequences of 16 and 192 texts.
+fn largest() -> String {
+    let child = |t: usize, k: usize| if k == 0 && t < 63 { t + 1 } else { 64 + (3 * t + k) % 192 };
+    let sequence = |t: usize| {
+        let children: Vec<String> = (0..16).map(|k| format!("t{:031}", child(t, k))).collect();
+        format!("<!ELEMENT t{t:031} ({})>\n", children.join(","))
+    };
+    let texts = (64..256).map(|t| format!("<!ELEMENT t{t:031} (#PCDATA)>\n"));
+    (0..64).map(sequence).chain(texts).collect()
+}
+
 /// The marks and the lines of a format.
 fn lines(format: u16) -> (Vec<u8>, Vec<String>) {
     let edits = (0..16).flat_map(|c| (0..16).flat_map(move |i| (0..16).map(move |j| (c, i, j))));
@@ -96,6 +107,26 @@ fn is_read(text: &[u8], format: u16, read: usize, length: usize, number: usize, 
     }
 }
 
+fn is_largest_both_ways(text: &[u8], format: u16) -> bool {
+    let line = |t: usize| {
+        let (mark, sign) = if t % 3 == 0 { (FORBIDDEN, '-') } else { (ALLOWED, '+') };
+        (mark, format!("{sign} t{:031} text\n", 64 + t))
+    };
+    let (marks, lines): (Vec<u8>, Vec<String>) = (0..192).map(line).unzip();
+    let listing = lines.concat();
+    let (mut out, mut back) = (vec![KEPT; listing.len() + 1], vec![KEPT; 193]);
+    let length = write_listing(text, format, &marks, &mut out);
+    let read = read_listing(text, format, listing.as_bytes(), &mut back);
+    let right = (length, read) == (Ok(listing.len()), Ok(()));
+    right && out == held(listing.len() + 1, listing.as_bytes()) && back == held(193, &marks)
+}
+
+fn is_no_format(text: &[u8], format: u16) -> bool {
+    let mut out = [KEPT; 192];
+    let told = (write_listing(text, format, &[UNSET; 192], &mut out), read_listing(text, format, &[], &mut out));
+    told == (Err(refused(1, 0)), Err(refused(1, 0))) && out == [KEPT; 192]
+}
+
 fn main() -> ExitCode {
     let text = text().into_bytes();
     for (format, length, number) in WRITINGS {
@@ -107,6 +138,19 @@ fn main() -> ExitCode {
     for (format, read, length, number, place) in READINGS {
         if !is_read(&text, format, read, length, number, place) {
             println!("tests/many_lines: read in format {format}, {read} bytes, a result of {length}: not as known");
+            return ExitCode::FAILURE;
+        }
+    }
+    let text = largest().into_bytes();
+    for format in [1, 2] {
+        if !is_largest_both_ways(&text, format) {
+            println!("tests/many_lines: the largest schema in format {format}: not as known");
+            return ExitCode::FAILURE;
+        }
+    }
+    for format in [0, 3, 257, 258, 4097, 4098, 32769, 32770, 65535] {
+        if !is_no_format(&text, format) {
+            println!("tests/many_lines: format {format} is taken");
             return ExitCode::FAILURE;
         }
     }
