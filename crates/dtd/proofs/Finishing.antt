@@ -98,6 +98,9 @@ blank-length format ds =
 pub untotalled-long : (ds : List Declaration) {ws : List ℕ} → ws ≡ untotalled ds → 8 ≤ length ws
 untotalled-long ds e = rw e (omega (arith, blank-length 1 ds))
 
+pub written-long : (word : ℕ) (ds : List Declaration) {ws : List ℕ} → ws ≡ untotalled ds → 7 < length (set ws 0 word)
+written-long word ds {ws} e = omega (arith, untotalled-long ds e, length-set ws 0 word)
+
 -- the format is written
 pub formatted : (format : ℕ) (ds : List Declaration) {ws : List ℕ} → ws ≡ untotalled ds → set ws 0 format ≡ blank format ds
 unfolding wordsOf

@@ -1,14 +1,11 @@
 // A table in a file: its words, low byte first, as judge reads them; and the line with which a program refuses its input. The contract of pack cites
 // specs/Bytes.
-ghost use Prim.Native.Nat.{_+_, _*_, _/_, _%_, _<_, _≤_};
+ghost use Prim.Native.Nat.{_+_, _*_, _/_, _%_, _<_, _≤_, min};
 ghost use mathlib.Core.Path.{_≡_};
-ghost use lib.ListN.{length, set};
+ghost use lib.ListN.{length, getD, set};
 ghost use Rattle.packing.specs.Bytes.{Packed};
 use table::words::lesser;
-
-fn wide(word: u16) -> usize {
-    word as usize
-}
+use table::words::word_at;
 
 // Writes a word as two bytes.
 fn put_word(word: u16, at: usize, bytes: &mut [u8])
@@ -31,11 +28,11 @@ pub fn pack(words: &[u16], bytes: &mut [u8])
     }
 }
 
-// How many words a table has: its word 1 says it.
+// How many words a table has: as many as its word 1 says, and no more than there are.
 pub fn words_of(words: &[u16; 1800]) -> usize
-    ensures { λ r. ⌜ r ≤ 1800 ⌝ }
+    ensures { λ r. ⌜ r ≡ min (getD (now (words .entry)) 1 0) 1800 ⌝ }
 {
-    lesser(wide(words[1]), 1800)
+    lesser(word_at(words, 1), 1800)
 }
 
 // Writes a table to standard output.

@@ -2,8 +2,8 @@ use native.Mathlib.Omega.{arith}
 use mathlib.Core.Path.{ap}
 use mathlib.Core.List.{List}
 use Prim.Native.Nat.{ℕ}
-use lib.ListN.{set, length-set}
-use Rattle.dtd.proofs.Finishing.{untotalled-long, formatted, formatted-fits, total-fits}
+use lib.ListN.{set}
+use Rattle.dtd.proofs.Finishing.{untotalled-long, written-long, formatted, formatted-fits, total-fits}
 use Rattle.dtd.proofs.Lasting.{too-wide, with-total, total-is}
 use borrow.Author.Needs.{needs}
 use Rattle.dtd.proofs.finish.finish.Statement.{statement}
@@ -15,7 +15,7 @@ slice-write-words c = let a = c .before .before .pre .1 in omega (arith, untotal
 
 -- src/finish.rt:77:11
 add-up-requires : tie.Need-add-up-requires
-add-up-requires c κs = let b = c .before .before .before in formatted-fits (b .args .format) (b .pre .1 .0) (b .pre .1 .2)
+add-up-requires c κs = let b = c .before .before .before in formatted-fits _ (b .pre .1 .0) (b .pre .1 .2)
 
 -- src/finish.rt:78:21
 enum-known-t : tie.Need-enum-known-t
@@ -29,16 +29,15 @@ enum-known-v c = search needs
 cast-words : tie.Need-cast-words
 cast-words c =
     let b = c .before .before .before .before .before .before .before in
-    let f = b .args .format in
     let a = b .pre .1 in
-    let x = total-is (formatted f (a .0) (a .2)) (c .before .v .given .1) (c .before .before .before .add-up .ensures) in
-    omega (arith, total-fits f (a .0) (a .1) (c .before .v .given .0 .0) x)
+    let x = total-is (formatted _ (a .0) (a .2)) (c .before .v .given .1) (c .before .before .before .add-up .ensures) in
+    omega (arith, total-fits _ (a .0) (a .1) (c .before .v .given .0 .0) x)
 
 -- src/finish.rt:83:13
 slice-write-words-2 : tie.Need-slice-write-words-2
 slice-write-words-2 c =
     let b = c .before .before .before .before .before .before .before in
-    omega (arith, length-set (b .args .words .now) 0 (b .args .format), untotalled-long (b .pre .1 .0) (b .pre .1 .2))
+    written-long _ (b .pre .1 .0) (b .pre .1 .2)
 
 -- src/finish.rt:84:13
 answer-requires : tie.Need-answer-requires
