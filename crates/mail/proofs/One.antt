@@ -1,6 +1,6 @@
 -- The answers of both calls admit one outcome only. Assumes nothing.
-use Prim.Native.Nat.{ℕ, _≤_, _<_}
-use mathlib.Core.Path.{_≡_, refl, sym, ap, _∙_, subst}
+use Prim.Native.Nat.{ℕ, _≤_}
+use mathlib.Core.Path.{_≡_, sym, ap, _∙_, subst}
 use mathlib.Core.List.{List, _∷_, _++_}
 use native.Mathlib.Omega.{arith}
 use lib.ListN.{length, drop}
@@ -14,7 +14,7 @@ use Rattle.dtd.proofs.OneAnswer.{Same, no-table-one, no-table-apart, tabled-one
 use Rattle.labels.specs.steps.Booked.{Labelled}
 use Rattle.listing.specs.Faults.{Fault, no-line, not-above}
 use Rattle.listing.proofs.Listings.{listing-one, no-fault, marks-one, fault-one}
-use Rattle.mail.specs.Answers.{Schema, NoSchema, no-format, no-table, labelsOf, Listed}
+use Rattle.mail.specs.Answers.{Schema, NoSchema, no-format, no-table, labelsOf}
 use Rattle.mail.specs.Answers.{Written, no-marks, no-room, written, ReadFrom, no-listing, no-room-for-marks, marks-read, BySchema, no-schema, by-schema, WriteAnswer, ReadAnswer}
 use Rattle.mail.proofs.Schemas.{schema-labelled}
 

@@ -1,19 +1,14 @@
 -- From a schema that was read to the answers of both calls. Assumes nothing.
-use Prim.Native.Nat.{ℕ, _+_, _*_, _-_, _≤_, _<_}
+use Prim.Native.Nat.{ℕ, _+_, _-_, _≤_}
 use mathlib.Core.Path.{_≡_, refl, sym, ap, _∙_, subst}
 use mathlib.Core.Logic.{_≢_, inl, inr}
-use mathlib.Core.List.{List, [], _∷_, _++_}
+use mathlib.Core.List.{List, _∷_, _++_}
 use native.Mathlib.Omega.{arith}
-use lib.ListN.{length, getD, take, drop, replicate, length-append, length-take, length-replicate, getD-replicate, List·getD-eq-default}
-use lib.Seq.{take-append-seam, take-length}
-use Rattle.table.specs.declared.check.Check.the-variants.{Layout, Total}
+use lib.ListN.{length, getD, take, drop, length-append}
+use lib.Seq.{take-append-seam}
 use Rattle.table.specs.Words.{formatOf, types}
 use Rattle.table.specs.Privilege.{privileges}
 use Rattle.table.specs.Check.{Accepted}
-use Rattle.table.proofs.Facts.{facts}
-use Rattle.policy.specs.Marks.{Fit}
-use Rattle.policy.specs.steps.Checking.{MarksAnswer, unfit, fit}
-use Rattle.policy.proofs.Policies.{unfit-number, marks-refused}
 use Rattle.model.specs.Tables.{rulesOf, kidsOfAll, wordsOf, tableOf}
 use Rattle.model.proofs.Words.{types-are}
 use Rattle.model.proofs.Shape.{table-length, format-is}
@@ -22,23 +17,17 @@ use Rattle.grammar.specs.Tree.{Declaration}
 use Rattle.grammar.proofs.Stopping.{le-or-lt}
 use Rattle.dtd.specs.Answer.{KnownFormat, Read, many-children, DtdAnswer, refused, too-short, done}
 use Rattle.dtd.proofs.OneAnswer.{no-table-number}
-use Rattle.runs.specs.Putting.{Fits}
-use Rattle.runs.proofs.Texts.{fits-puts, puts-first}
 use Rattle.labels.specs.steps.Booked.{labelIn, Labelled, Alike, LabelsRead}
 use Rattle.labels.proofs.Labelling.{alike-labelled}
-use Rattle.listing.specs.Listing.{ListingOf}
-use Rattle.listing.proofs.Listings.{listing-one}
 use Rattle.listing.proofs.Relabelled.{lists-as, fault-as}
-use Rattle.mailing.specs.steps.Putting.{Mailable, LinesPut}
-use Rattle.reading.specs.steps.Reading.{Readable, LinesRead, faulty, listed}
-use Rattle.mail.specs.Answers.{Schema, NoSchema, no-format, no-table, labelsOf, Listed, Written, ReadFrom, no-marks, no-room, written, no-listing, no-room-for-marks, marks-read}
+use Rattle.reading.specs.steps.Reading.{Readable}
+use Rattle.mail.specs.Answers.{no-format, no-table, labelsOf, Listed, Written, ReadFrom, no-marks, no-room, written, no-listing, no-room-for-marks, marks-read}
 use Rattle.mail.specs.Answers.{BySchema, no-schema, by-schema, WriteAnswer, ReadAnswer}
 use Rattle.mail.specs.steps.Opened as steps
 use Rattle.mail.specs.steps.Opened.{Opened, SchemaRead, Given}
 use Rattle.mail.specs.declared.Ask.{Ask}
 use Rattle.mail.specs.declared.Ask.the-variants.{Write}
 use Rattle.mail.specs.declared.Ask.the-variants as asks
-use Rattle.mail.proofs.One.{fault-number}
 use Rattle.mail.proofs.Schemas.{names-short, types-few, schema-labelled}
 
 -- reading the text

@@ -1,13 +1,13 @@
 -- What a schema gives: names of at most 32 bytes, and labels that can be told apart. Assumes nothing.
 use Prim.Native.Nat.{ℕ, suc, _+_, _-_, _≤_, _<_}
-use mathlib.Core.Path.{_≡_, refl, ap, _∙_}
+use mathlib.Core.Path.{refl, ap}
 use mathlib.Core.Logic.{inl, inr}
 use mathlib.Core.List.{List, _∷_}
 use native.Mathlib.Omega.{arith}
 use lib.ListN.{length, take, drop, length-take, length-drop, take-append-drop}
 use Rattle.table.specs.Words.{types}
 use Rattle.grammar.specs.Tree.{Declaration, Nth, first, later}
-use Rattle.grammar.specs.Grammar.{Name, element, Items, a-space, a-comment, a-declaration}
+use Rattle.grammar.specs.Grammar.{element, Items, a-space, a-comment, a-declaration}
 use Rattle.grammar.specs.Limits.{declared-name, long-name}
 use Rattle.grammar.proofs.Stopping.{le-or-lt}
 use Rattle.model.specs.Tables.{rulesOf, tableOf}

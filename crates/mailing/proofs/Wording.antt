@@ -14,7 +14,7 @@ use Rattle.grammar.specs.Bytes.{ascii}
 use Rattle.runs.specs.Putting.{Fits}
 use Rattle.runs.proofs.Texts.{fits-as, fits-then}
 use Rattle.labels.specs.steps.Booked.{labelIn, Labelled}
-use Rattle.listing.specs.Line.{signOf, partsOf, spaced, lineOf}
+use Rattle.listing.specs.Line.{signOf, partsOf, spaced}
 use Rattle.mailing.specs.steps.Naming.{namedBy}
 use Rattle.mailing.specs.steps.Wording.{afterBlank, blanked, Brief, AllBrief}
 use Rattle.mailing.specs.declared.edit.Naming.{Naming}
@@ -107,11 +107,6 @@ module _ (names starts : List ℕ) where
   parts-few (Insert x child) h = omega (arith, h .0 .short, h .1 .short, three-length (label x) (ascii "insert") (label child))
   parts-few (Delete x child) h = omega (arith, h .0 .short, h .1 .short, three-length (label x) (ascii "delete") (label child))
   parts-few (Replace x from to) h = omega (arith, h .0 .short, h .1 .short, h .2 .short, four-length (label x) (ascii "replace") (label from) (label to))
-
-  pub line-few : (mark : ℕ) (edit : Naming) → AllBrief names starts edit → length (lineOf label mark (namedBy edit)) ≤ 109
-  line-few mark edit h =
-      let parts = partsOf label (namedBy edit) in
-      omega (arith, parts-few edit h, sign-length mark, length-append (signOf mark) (blanked parts), length-append (signOf mark ++ blanked parts) (code "\n" ∷ []), ap length (spaced-parts (signOf mark) parts))
 
   -- types of a table have labels that are short
   pub all-brief : {e : ℕ} → e ≤ 256 → Labelled label e → (edit : Naming) → Each (λ t. t < e) (namedBy edit) → AllBrief names starts edit

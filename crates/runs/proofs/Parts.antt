@@ -1,10 +1,10 @@
 -- A part of a run by its ends. Assumes nothing.
 use Prim.Native.Nat.{ℕ, zero, suc, _-_}
-use mathlib.Core.Path.{_≡_, refl, sym, ap, _∙_}
+use mathlib.Core.Path.{_≡_, sym}
 use mathlib.Core.List.{List, [], _∷_}
 use native.Mathlib.Omega.{arith}
 use lib.ListN.{take, drop}
-use lib.Seq.{slice, drop-nil, take-nil}
+use lib.Seq.{slice, take-nil}
 
 -- the part from a to b, as a part of what follows a
 pub slice-part : (a b : ℕ) (l : List ℕ) → slice a b l ≡ take (b - a) (drop a l)

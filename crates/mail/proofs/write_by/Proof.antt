@@ -1,5 +1,4 @@
 -- Wrong marks and a short result are refused; else the lines are put. Assumes nothing.
-use native.Mathlib.Omega.{arith}
 use denote.Ref.{now}
 use Rattle.table.specs.Privilege.{privileges}
 use Rattle.policy.specs.Marks.{Fit}

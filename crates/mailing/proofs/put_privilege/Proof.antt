@@ -7,8 +7,10 @@ use denote.Ref.{now}
 use Rattle.table.proofs.Facts.{facts}
 use Rattle.table.proofs.Privileges.{belongs-below}
 use Rattle.labels.specs.steps.Booked.{labelIn}
+use lib.ListN.{getD}
+use Rattle.listing.proofs.Appending.{line-length}
 use Rattle.mailing.proofs.Naming.{names-inside}
-use Rattle.mailing.proofs.Wording.{all-brief, line-few}
+use Rattle.mailing.proofs.Wording.{all-brief}
 use Rattle.mailing.proofs.Continuing.{edit-line, continues-unset, continues-set}
 use Rattle.mailing.proofs.put_privilege.Statement.{statement}
 use Rattle.mailing.proofs.put_privilege.Tie as tie
@@ -45,8 +47,8 @@ returns-2 c =
     let p = start .pre in
     let edit = c .before .before .before .before .named-at .ensures in
     let label : ℕ → List ℕ = labelIn (now (a .names)) (now (a .starts)) in
-    let brief = all-brief (now (a .names)) (now (a .starts)) (facts (p .0 .accepted) .few) (p .0 .labelled) (c .before .before .before .before .named-at .result) (names-inside (p .0 .accepted) edit) in
-    continues-set (c .before .before .before .before .before .if1 .left) (edit-line label _ edit (omega (arith, p .1 .from, p .2))) (line-few (now (a .names)) (now (a .starts)) _ (c .before .before .before .before .named-at .result) brief) (c .before .before .put-line .ensures)
+    let line = edit-line {p = a .p} label (getD (now (a .marks)) (a .p) 0) edit (omega (arith, p .1 .from, p .2)) in
+    continues-set (c .before .before .before .before .before .if1 .left) line (line-length (p .0 .accepted) (p .0 .labelled) line) (c .before .before .put-line .ensures)
 
 pub put-privilege-spec : {M : Type 1} → statement M
 put-privilege-spec =
