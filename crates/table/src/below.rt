@@ -12,7 +12,7 @@ use super::rule::children;
 use super::words::word_at;
 
 // Marks the kids, and lists those that were not marked before.
-fn add_kids(kids: &[u16], marks: &mut [u8; 256], order: &mut [u8; 256], listed: usize) -> usize
+pub fn add_kids(kids: &[u16], marks: &mut [u8; 256], order: &mut [u8; 256], listed: usize) -> usize
     requires { ⌜ Flags listed (now marks) (now order) × Inside 256 (now kids) ⌝ }
     ensures { λ r. ⌜ Added (now (kids .entry)) (now (marks .entry)) (now (order .entry)) listed (now (marks .exit)) (now (order .exit)) r ⌝ }
 {

@@ -6,6 +6,7 @@ use mathlib.Core.List.{List, []}
 use native.Mathlib.Omega.{arith}
 use lib.ListN.{length}
 use Rattle.table.specs.HowMany.{Tallied, some, nothing}
+use Rattle.table.specs.Words.{types}
 use Rattle.table.specs.Rule.{IsChoice, childAt}
 use Rattle.table.specs.declared.privilege.Numbering.{Numbering}
 use Rattle.table.specs.Privilege.{privileges, exchangeOf, replaceOf}
@@ -23,13 +24,17 @@ use Rattle.policy.specs.declared.renew.Renewal.the-variants as Renewal
 use Rattle.chain.specs.Chain.{Fewest, chainOf, ShortestChain}
 use Rattle.chain.specs.declared.Chain.{Chain as Chained}
 use Rattle.chain.proofs.Chains.{fewest-short, chain-places}
-use Rattle.verdict.specs.Below.{ForbiddenBelow}
-use Rattle.verdict.specs.Breaches.{spotOf, chainIn, StarBroken, at-exchange, at-below, InsertDeleteBreach, ChainBreach, CycleBreach, BreachOf, IsBreach, FirstSpot, StepsOf, ChainAt, FirstBreach, Verdict, clean, broken}
+use Rattle.verdict.specs.Below.{ForbiddenBelow, ForbiddenTally}
+use Rattle.verdict.specs.Breaches.{conditionNumber, spotOf, chainIn, StarBroken, at-exchange, at-below, InsertDeleteBreach, ChainBreach, CycleBreach, BreachOf, BreachBy, IsBreach, FirstSpot, StepsOf, ChainAt, FirstBreach, Verdict, clean, broken}
 use Rattle.verdict.specs.Breaches.{PassesOn, star, replace, chain, cycle}
 use Rattle.verdict.specs.Conditions.{Clean}
-use Rattle.verdict.specs.steps.Visits.{Searched, none, first}
+use Rattle.verdict.specs.steps.Visits.{starSpot, Searched, none, first}
+use Rattle.verdict.specs.steps.Breakers.{BreakerAt}
+use Rattle.verdict.specs.steps.Breakers as breaker
 use Rattle.verdict.specs.declared.Breach.{Breach}
 use Rattle.verdict.specs.declared.Spot.{Spot}
+use Rattle.verdict.specs.declared.breaches.Breaker.{Breaker}
+use Rattle.verdict.specs.declared.breaches.Breaker.the-variants.{Own, Below}
 use Rattle.verdict.specs.declared.Condition.{Condition}
 use Rattle.verdict.specs.declared.Condition.the-variants.{None, InsertDelete, Chain, Cycle}
 use Rattle.verdict.proofs.Firsts.{breach-cases, broken-some, none-clean}
@@ -50,11 +55,11 @@ module _ (ws marks : List ℕ) where
   Here = ForbiddenBelow ws marks
 
   -- a spot is broken as its condition says
-  abbrev pub BrokenAs : Spot → ℕ → Type 0
-  BrokenAs s p = (k : Condition) → s .condition ≡ k → BreachOf ws marks Here k s p
+  abbrev pub BrokenAs : (ℕ → ℕ → Type 0) → Spot → ℕ → Type 0
+  BrokenAs B s p = (k : Condition) → s .condition ≡ k → BreachOf ws marks B k s p
 
-  pub broken-as : (s : Spot) (p : ℕ) → IsBreach ws marks s p → BrokenAs s p
-  broken-as s p h k e = subst (λ (c : Condition). BreachOf ws marks Here c s p) e h
+  pub broken-as : (B : ℕ → ℕ → Type 0) (s : Spot) (p : ℕ) → BreachBy ws marks B s p → BrokenAs B s p
+  broken-as B s p h k e = subst (λ (c : Condition). BreachOf ws marks B c s p) e h
 
   star-below : {x p : ℕ} → StarBroken ws marks Here x p → p < privileges ws
   star-below {x} (at-exchange b e) = rw e (edit-below ws (edit.exchange x) (b .can))
@@ -125,6 +130,31 @@ module _ (ws marks : List ℕ) where
       tally-cycle : {l c : ℕ} → Tallied (IsBreach ws marks s) (privileges ws) l c → Tallied (Here (childAt ws (s .element) (s .i))) (privileges ws) l c
       tally-cycle = tallied-as (λ q k. cycle-out q) (λ q k. cycle-into q)
 
+  -- what breaks a star does so at its spot
+  pub breaker-star : {s : Spot} {r : Breaker} → s .condition ≡ InsertDelete → BreakerAt ws marks (starSpot (s .element)) r → BreakerAt ws marks s r
+  breaker-star e (breaker.exchange f b is) = breaker.exchange e b is
+  breaker-star e (breaker.replacement f is) = absurd (omega (arith, ap conditionNumber f))
+  breaker-star e (breaker.star f d l is) = breaker.star e d l is
+  breaker-star e (breaker.cycle f l is) = absurd (omega (arith, ap conditionNumber f))
+
+  -- the child that is asked for is a type
+  pub breaker-type : {s : Spot} {y : ℕ} → BreakerAt ws marks s (Below y) → y < types ws
+  breaker-type (breaker.star e d l is) = l
+  breaker-type (breaker.cycle e l is) = l
+
+  -- what breaks a spot is that privilege alone, or what is forbidden below that child
+  module _ (s : Spot) (p : ℕ) (h : IsBreach ws marks s p) where
+    broken-here : BrokenAs Here s p
+    broken-here = broken-as Here s p h
+
+    pub own-tally : {q : ℕ} → BreakerAt ws marks s (Own q) → Tallied (IsBreach ws marks s) (privileges ws) q 1
+    own-tally (breaker.exchange e b is) = star-tally s e (broken-here InsertDelete e) (barred-tally b is)
+    own-tally (breaker.replacement e is) = chain-tally s e (broken-here Chain e) is
+
+    pub child-tally : {y l c : ℕ} → BreakerAt ws marks s (Below y) → Tallied (Here y) (privileges ws) l c → Tallied (IsBreach ws marks s) (privileges ws) l c
+    child-tally (breaker.star e d l is) t = let g = broken-here InsertDelete e in star-tally s e g (below-tally d (star-renewed d (g .broken)) (rw is at t))
+    child-tally (breaker.cycle e l is) t = cycle-tally s e (broken-here Cycle e) (rw is at t)
+
   -- the chain of a spot, by its condition
   module _ {s : Spot} {c : Chained} where
     chain-of : {k : Condition} → s .condition ≡ k → (ps : List ℕ) → StepsOf ws marks k s ps → c ≡ chainOf ps → ChainAt ws marks s c
@@ -151,7 +181,7 @@ module _ (ws marks : List ℕ) where
   tally-first {b} f (nothing n e z) s = let p = f .broken .0 in let h = f .broken .1 in absurd (n p (breach-below (spotOf b) p h) h)
 
   -- and its count is what the document says
-  pub passes-on : {b : Breach} → FirstBreach ws marks b → PassesOn ws marks b
+  pub passes-on : {b : Breach} → FirstBreach ws marks b → PassesOn ws marks (ForbiddenTally ws marks) b
   passes-on {b} f = elim (breach-cases ws marks Here s (b .privilege) (f .breach)) [
     | inl (e, h) ↦ broken e h (h .broken)
     | inr (inl (e, h)) ↦ chain e (tallied-one told (chain-tally s e h (h .is)) .1)
@@ -164,7 +194,7 @@ module _ (ws marks : List ℕ) where
       told : Tallied (IsBreach ws marks s) (privileges ws) (b .privilege) (b .forbidden)
       told = some (breach-below s (b .privilege) (f .breach)) (f .breach) (λ q l g. f .lowest q g) (f .count)
 
-      broken : b .condition ≡ InsertDelete → InsertDeleteBreach ws marks Here s (b .privilege) → StarBroken ws marks Here (b .element) (b .privilege) → PassesOn ws marks b
+      broken : b .condition ≡ InsertDelete → InsertDeleteBreach ws marks Here s (b .privilege) → StarBroken ws marks Here (b .element) (b .privilege) → PassesOn ws marks (ForbiddenTally ws marks) b
       broken e h (at-exchange c q) = replace e c q (tallied-one (tally-star s e h told) (barred-tally c q) .1)
       broken e h (at-below d r w) = star e d (tally-below d r (tally-star s e h told))
 

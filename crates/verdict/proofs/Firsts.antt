@@ -43,7 +43,7 @@ key-one s t h =
     let j : s .j ≡ t .j = cc in
     λ d. record { condition = e d; element = x d; i = i d; j = j d }
 
-breach-one : (b c : Breach) → spotOf b ≡ spotOf c → b .privilege ≡ c .privilege → b .forbidden ≡ c .forbidden → chainIn b ≡ chainIn c → b ≡ c
+pub breach-one : (b c : Breach) → spotOf b ≡ spotOf c → b .privilege ≡ c .privilege → b .forbidden ≡ c .forbidden → chainIn b ≡ chainIn c → b ≡ c
 breach-one b c e p n s = λ d. record {
   condition = e d .condition;
   element = e d .element;
@@ -62,7 +62,7 @@ steps-one ws marks InsertDelete s e f = e ∙ sym f
 steps-one ws marks Chain s f g = fewest-one f g
 steps-one ws marks Cycle s f g = fewest-one f g
 
-chain-at-one : {ws marks : List ℕ} {s : Spot} {c d : Chained} → ChainAt ws marks s c → ChainAt ws marks s d → c ≡ d
+pub chain-at-one : {ws marks : List ℕ} {s : Spot} {c d : Chained} → ChainAt ws marks s c → ChainAt ws marks s d → c ≡ d
 chain-at-one {ws} {marks} {s} f g = f .are ∙ ap chainOf (steps-one ws marks (s .condition) s (f .steps) (g .steps)) ∙ sym (g .are)
 
 -- the first spot is one

@@ -1,6 +1,7 @@
 -- A search by flags finds what a search by what is forbidden below each type would, if they tell of the same types that something is forbidden below
 -- them. Assumes nothing.
 use Prim.Native.Nat.{ℕ, _<_}
+use mathlib.Core.Path.{refl}
 use mathlib.Core.List.{List}
 use native.Mathlib.Omega.{arith}
 use Rattle.table.specs.Words.{types}
@@ -11,6 +12,7 @@ use Rattle.policy.proofs.Reaches.{reached-from}
 use Rattle.verdict.specs.Breaches.{StarBroken, at-exchange, at-below, BreachOf, BreachBy, FirstSpot}
 use Rattle.verdict.specs.steps.Spoils.{Agree}
 use Rattle.verdict.specs.steps.Visits.{Searched, none, first}
+use Rattle.verdict.specs.steps.Breakers.{Breakable}
 use Rattle.verdict.specs.declared.Spot.{Spot}
 use Rattle.verdict.specs.declared.Condition.{Condition}
 use Rattle.verdict.specs.declared.Condition.the-variants.{None, InsertDelete, Chain, Cycle}
@@ -37,6 +39,10 @@ module _ {ws : List ℕ} (marks : List ℕ) (a : Accepted ws) where
 
     pub breach-as : (s : Spot) (p : ℕ) → BreachBy ws marks B s p → (q : ℕ) × BreachBy ws marks C s q
     breach-as s p h = move (s .condition) s p h
+
+  -- a broken spot is one that can be
+  pub breach-can : (B : ℕ → ℕ → Type 0) (s : Spot) (p : ℕ) → BreachBy ws marks B s p → Breakable ws marks s
+  breach-can B s p h = breach-as (λ y q l w. (q, refl)) s p h
 
   -- the first spot is the same
   pub spot-as : {B C : ℕ → ℕ → Type 0} {s : Spot} → Agree ws B C → FirstSpot (BreachBy ws marks B) s → FirstSpot (BreachBy ws marks C) s

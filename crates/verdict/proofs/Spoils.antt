@@ -192,13 +192,13 @@ module _ {n : ℕ} {kids flags : List ℕ} {own r c : ℕ} (j : Joined n kids fl
       go (kept f g) = kept (λ i l. last i l f) g
 
 -- flags that are right tell of the right types
-pub flags-agree : {ws marks old flags : List ℕ} → Flags ws (ForbiddenBelow ws marks) old flags → Agree ws (Flagged flags) (ForbiddenBelow ws marks)
-flags-agree {ws} {marks} {old} {flags} f = record { onto = λ y p l e. onto y e (f .each y l); back = λ y q l w. (0, back y q w (f .each y l)) }
+pub flags-agree : {ws old flags : List ℕ} {R : ℕ → ℕ → Type 0} → Flags ws R old flags → Agree ws (Flagged flags) R
+flags-agree {ws} {old} {flags} {R} f = record { onto = λ y p l e. onto y e (f .each y l); back = λ y q l w. (0, back y q w (f .each y l)) }
   where
-    onto : (y : ℕ) → getD flags y 0 ≡ 1 → Flag (ForbiddenBelow ws marks y) (getD flags y 0) → (q : ℕ) × ForbiddenBelow ws marks y q
+    onto : (y : ℕ) → getD flags y 0 ≡ 1 → Flag (R y) (getD flags y 0) → (q : ℕ) × R y q
     onto y e (up p w g) = (p, w)
     onto y e (down n g) = absurd (omega arith)
 
-    back : (y q : ℕ) → ForbiddenBelow ws marks y q → Flag (ForbiddenBelow ws marks y) (getD flags y 0) → getD flags y 0 ≡ 1
+    back : (y q : ℕ) → R y q → Flag (R y) (getD flags y 0) → getD flags y 0 ≡ 1
     back y q w (up p v g) = g
     back y q w (down n g) = absurd (n q w)

@@ -9,7 +9,7 @@ use Rattle.table.specs.HowMany.{HowMany}
 use Rattle.table.specs.Lex.{Lex}
 use Rattle.table.specs.Privilege.{privileges, exchangeOf, replaceOf, Replaceable}
 use Rattle.policy.specs.Marks.{Allowed, Forbidden}
-use Rattle.verdict.specs.Below.{ForbiddenBelow, ForbiddenTally}
+use Rattle.verdict.specs.Below.{ForbiddenBelow}
 use Rattle.policy.specs.Reached.{Step, Reached}
 use Rattle.policy.specs.Renewed.{Renewed, Barred}
 use Rattle.chain.specs.Chain.{Fewest, chainOf}
@@ -17,6 +17,7 @@ use Rattle.chain.specs.declared.Chain.{Chain as Chained}
 use Rattle.verdict.specs.Conditions.{Clean}
 use Rattle.verdict.specs.declared.Breach.{Breach}
 use Rattle.verdict.specs.declared.Spot.{Spot}
+use Rattle.verdict.specs.declared.below.Tally.{Tally}
 use Rattle.verdict.specs.declared.Condition.{Condition}
 use Rattle.verdict.specs.declared.Condition.the-variants.{None, InsertDelete, Chain, Cycle}
 
@@ -116,11 +117,11 @@ pub data Verdict (ws marks : List ℕ) (b : Breach) : Type 0 where
   broken : FirstBreach ws marks b → Verdict ws marks b
 
 -- The count of a breach as the document says it: "breaches of 1 and 3 pass the count on; condition 2 has count 1"; "where the replace itself is forbidden
--- it is condition 1's privilege, with count 1".
-pub data PassesOn (ws marks : List ℕ) (b : Breach) : Type 0 where
+-- it is condition 1's privilege, with count 1". Answers y r says that r answers what is forbidden below type y; in a policy it is ForbiddenTally.
+pub data PassesOn (ws marks : List ℕ) (Answers : ℕ → Tally → Type 0) (b : Breach) : Type 0 where
   star : b .condition ≡ InsertDelete → ¬ Barred ws marks (b .element)
-      → ForbiddenTally ws marks (childAt ws (b .element) 0) (record { lowest = b .privilege; count = b .forbidden }) → PassesOn ws marks b
-  replace : b .condition ≡ InsertDelete → Barred ws marks (b .element) → b .privilege ≡ exchangeOf ws (b .element) → b .forbidden ≡ 1 → PassesOn ws marks b
-  chain : b .condition ≡ Chain → b .forbidden ≡ 1 → PassesOn ws marks b
-  cycle : b .condition ≡ Cycle → ForbiddenTally ws marks (childAt ws (b .element) (b .i)) (record { lowest = b .privilege; count = b .forbidden })
-      → PassesOn ws marks b
+      → Answers (childAt ws (b .element) 0) (record { lowest = b .privilege; count = b .forbidden }) → PassesOn ws marks Answers b
+  replace : b .condition ≡ InsertDelete → Barred ws marks (b .element) → b .privilege ≡ exchangeOf ws (b .element) → b .forbidden ≡ 1
+      → PassesOn ws marks Answers b
+  chain : b .condition ≡ Chain → b .forbidden ≡ 1 → PassesOn ws marks Answers b
+  cycle : b .condition ≡ Cycle → Answers (childAt ws (b .element) (b .i)) (record { lowest = b .privilege; count = b .forbidden }) → PassesOn ws marks Answers b

@@ -2,3 +2,4 @@
 pub mod Spoils
 pub mod Tallies
 pub mod Visits
+pub mod Breakers

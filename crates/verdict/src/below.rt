@@ -48,7 +48,7 @@ fn lowest_from(marks: &[u8], from: usize) -> usize
 }
 
 // Adds what is forbidden in a stretch of privileges, if its flag is 1, to what was counted before it.
-fn add_stretch(marks: &[u8], from: usize, until: usize, flag: u8, before: Tally) -> Tally
+pub fn add_stretch(marks: &[u8], from: usize, until: usize, flag: u8, before: Tally) -> Tally
     requires { ⌜ (from ≤ until) × (until ≤ length (now marks)) × (until ≤ 4096) × (before .count ≤ 4096) ⌝ }
     ensures { λ r. ⌜ Added (now (marks .entry)) from until flag before r ⌝ }
 {

@@ -15,9 +15,9 @@ ghost use Rattle.policy.specs.Marks.{Allowed, Policy};
 ghost use Rattle.policy.specs.Reached.{Reached};
 ghost use Rattle.policy.specs.Renewed.{Renewed, Barred};
 ghost use Rattle.policy.specs.steps.Squares.{marked, Square, ForbiddenIn};
-ghost use Rattle.verdict.specs.Below.{ForbiddenBelow};
-ghost use Rattle.verdict.specs.Breaches.{noBreach, StarBroken, BreachBy, IsBreach, FirstSpot, ChainAt, FirstBreach, Verdict};
+ghost use Rattle.verdict.specs.Breaches.{noBreach, BreachBy, IsBreach, FirstSpot, ChainAt, FirstBreach, Verdict};
 ghost use Rattle.verdict.specs.steps.Spoils.{Flagged};
+ghost use Rattle.verdict.specs.steps.Breakers.{Breakable, BreakerAt, BreachWith};
 ghost use Rattle.verdict.specs.steps.Visits.{noSpot, starSpot, Visited, Broken, FirstPair, Searched, BreachAt, CycleAt};
 use super::Breach;
 use super::Condition;
@@ -52,6 +52,12 @@ use table::words::word_at;
 pub enum Pair {
     At(usize, usize),
     Nothing,
+}
+
+// What breaks a spot: a privilege of its type by itself, or what is forbidden below a child.
+pub enum Breaker {
+    Own(usize),
+    Below(usize),
 }
 
 // No breach: all 0.
@@ -283,7 +289,7 @@ fn breach_at(words: &[u16], marks: &[u8], flags: &[u8; 256], x: usize, first: us
 }
 
 // Where the first breach of a policy by the flags is.
-fn first_spot(words: &[u16], marks: &[u8], flags: &[u8; 256]) -> Spot
+pub fn first_spot(words: &[u16], marks: &[u8], flags: &[u8; 256]) -> Spot
     requires { ⌜ Policy (now words) (now marks) ⌝ }
     ensures { λ r. ⌜ Searched (BreachBy (now (words .entry)) (now (marks .entry)) (Flagged (now (flags .entry)))) r ⌝ }
 {
@@ -305,44 +311,49 @@ fn first_spot(words: &[u16], marks: &[u8], flags: &[u8; 256]) -> Spot
 }
 
 // What breaks the star x: its exchange, or else what is forbidden below its child.
-fn star_tally(words: &[u16], marks: &[u8], x: usize, n: Numbering) -> Tally
-    requires { ⌜ Policy (now words) (now marks) × NumberedAs (now words) x n × IsStar (now words) x × ((p : ℕ) × StarBroken (now words) (now marks) (ForbiddenBelow (now words) (now marks)) x p) ⌝ }
-    ensures { λ r. ⌜ Tallied (StarBroken (now (words .entry)) (now (marks .entry)) (ForbiddenBelow (now (words .entry)) (now (marks .entry))) x) (privileges (now (words .entry))) (r .lowest) (r .count) ⌝ }
+fn star_breaker(words: &[u16], marks: &[u8], x: usize, n: Numbering) -> Breaker
+    requires { ⌜ Policy (now words) (now marks) × NumberedAs (now words) x n × IsStar (now words) x ⌝ }
+    ensures { λ r. ⌜ BreakerAt (now (words .entry)) (now (marks .entry)) (starSpot x) r ⌝ }
 {
     let renewal = renewal_of(marks, n);
     if let Renewal::Barred = renewal {
-        return Tally {
-            lowest: exchange(n),
-            count: 1,
-        };
+        return Breaker::Own(exchange(n));
     }
-    forbidden_below(words, marks, child_at(words, x, 0))
+    Breaker::Below(child_at(words, x, 0))
 }
 
-// What breaks a spot, by the numbering of its type: the lowest privilege and how many there are.
-fn tally_at(words: &[u16], marks: &[u8], spot: Spot, n: Numbering) -> Tally
-    requires { ⌜ Policy (now words) (now marks) × NumberedAs (now words) (spot .element) n × ((p : ℕ) × IsBreach (now words) (now marks) spot p) ⌝ }
-    ensures { λ r. ⌜ Tallied (IsBreach (now (words .entry)) (now (marks .entry)) spot) (privileges (now (words .entry))) (r .lowest) (r .count) ⌝ }
+// What breaks a spot, by the numbering of its type.
+pub fn breaker_at(words: &[u16], marks: &[u8], spot: Spot, n: Numbering) -> Breaker
+    requires { ⌜ Policy (now words) (now marks) × NumberedAs (now words) (spot .element) n × Breakable (now words) (now marks) spot ⌝ }
+    ensures { λ r. ⌜ BreakerAt (now (words .entry)) (now (marks .entry)) spot r ⌝ }
 {
     let x = spot.element;
     let condition = spot.condition;
     match condition {
-        Condition::None => Tally {
-            lowest: 0,
-            count: 0,
-        },
-        Condition::InsertDelete => star_tally(words, marks, x, n),
-        Condition::Chain => Tally {
-            lowest: replacement(n, spot.i, spot.j),
+        Condition::None => Breaker::Own(0),
+        Condition::InsertDelete => star_breaker(words, marks, x, n),
+        Condition::Chain => Breaker::Own(replacement(n, spot.i, spot.j)),
+        Condition::Cycle => Breaker::Below(child_at(words, x, spot.i)),
+    }
+}
+
+// The lowest privilege that breaks a spot and how many there are, worked out from the marks.
+fn tally_by(words: &[u16], marks: &[u8], spot: Spot, breaker: Breaker) -> Tally
+    requires { ⌜ Policy (now words) (now marks) × BreakerAt (now words) (now marks) spot breaker × ((p : ℕ) × IsBreach (now words) (now marks) spot p) ⌝ }
+    ensures { λ r. ⌜ Tallied (IsBreach (now (words .entry)) (now (marks .entry)) spot) (privileges (now (words .entry))) (r .lowest) (r .count) ⌝ }
+{
+    match breaker {
+        Breaker::Own(p) => Tally {
+            lowest: p,
             count: 1,
         },
-        Condition::Cycle => forbidden_below(words, marks, child_at(words, x, spot.i)),
+        Breaker::Below(y) => forbidden_below(words, marks, y),
     }
 }
 
 // The chain of a broken spot, by the numbering of its type: conditions 2 and 3 have one.
 fn chain_at(words: &[u16], marks: &[u8], spot: Spot, n: Numbering) -> Chain
-    requires { ⌜ Policy (now words) (now marks) × NumberedAs (now words) (spot .element) n × ((p : ℕ) × IsBreach (now words) (now marks) spot p) ⌝ }
+    requires { ⌜ Policy (now words) (now marks) × NumberedAs (now words) (spot .element) n × Breakable (now words) (now marks) spot ⌝ }
     ensures { λ r. ⌜ ChainAt (now (words .entry)) (now (marks .entry)) spot r ⌝ }
 {
     let x = spot.element;
@@ -356,6 +367,26 @@ fn chain_at(words: &[u16], marks: &[u8], spot: Spot, n: Numbering) -> Chain
     }
 }
 
+// The breach at a spot, by the numbering of its type and by what was told of what breaks it.
+pub fn breach_with(words: &[u16], marks: &[u8], spot: Spot, n: Numbering, told: Tally) -> Breach
+    requires { ⌜ Policy (now words) (now marks) × NumberedAs (now words) (spot .element) n × Breakable (now words) (now marks) spot ⌝ }
+    ensures { λ r. ⌜ BreachWith (now (words .entry)) (now (marks .entry)) spot told r ⌝ }
+{
+    let steps = chain_at(words, marks, spot, n);
+    let condition = spot.condition;
+    let positions = steps.at;
+    Breach {
+        condition: condition,
+        element: spot.element,
+        i: spot.i,
+        j: spot.j,
+        privilege: told.lowest,
+        forbidden: told.count,
+        length: steps.length,
+        chain: positions,
+    }
+}
+
 // The breach at the first spot: what breaks it there, and its chain.
 fn breach_of(words: &[u16], marks: &[u8], spot: Spot) -> Breach
     requires { ⌜ Policy (now words) (now marks) × FirstSpot (IsBreach (now words) (now marks)) spot ⌝ }
@@ -363,20 +394,8 @@ fn breach_of(words: &[u16], marks: &[u8], spot: Spot) -> Breach
 {
     let x = spot.element;
     let n = numbers_at(words, x, first_privilege(words, x));
-    let tally = tally_at(words, marks, spot, n);
-    let steps = chain_at(words, marks, spot, n);
-    let condition = spot.condition;
-    let positions = steps.at;
-    Breach {
-        condition: condition,
-        element: x,
-        i: spot.i,
-        j: spot.j,
-        privilege: tally.lowest,
-        forbidden: tally.count,
-        length: steps.length,
-        chain: positions,
-    }
+    let tally = tally_by(words, marks, spot, breaker_at(words, marks, spot, n));
+    breach_with(words, marks, spot, n, tally)
 }
 
 // The first breach of a policy, or none where it is clean. The order holds each type after its children.

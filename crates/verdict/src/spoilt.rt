@@ -44,7 +44,7 @@ fn own_flags(words: &[u16], marks: &[u8], flags: &mut [u8; 256])
 }
 
 // 1 if the flag of a child is, else the type's own.
-fn flag_over(kids: &[u16], flags: &[u8; 256], own: u8) -> u8
+pub fn flag_over(kids: &[u16], flags: &[u8; 256], own: u8) -> u8
     requires { ⌜ ((i : ℕ) → i < length (now kids) → getD (now kids) i 0 < 256) ⌝ }
     ensures { λ r. ⌜ Joined (length (now (kids .entry))) (now (kids .entry)) (now (flags .entry)) own r ⌝ }
 {

@@ -5,7 +5,9 @@ use Prim.Native.Nat.{_<_}
 use Rattle.table.specs.Words.{types}
 use Rattle.table.proofs.Facts.{accepted-childed}
 use Rattle.verdict.specs.Below.{ForbiddenBelow}
+use Rattle.verdict.specs.steps.Breakers.{Breakable}
 use Rattle.verdict.proofs.Firsts.{breach-type}
+use Rattle.verdict.proofs.Flagged.{breach-can}
 use Rattle.verdict.proofs.Breakers.{tally-first}
 use Rattle.verdict.proofs.breaches.breach_of.Statement.{statement}
 use Rattle.verdict.proofs.breaches.breach_of.Tie as tie
@@ -13,6 +15,10 @@ use Rattle.verdict.proofs.breaches.breach_of.Tie as tie
 -- the spot is at a type
 is-type : (c : tie.Start) → c .args .spot .element < types (now (c .args .words))
 is-type c = let b = c .pre .1 .broken in breach-type (now (c .args .words)) (now (c .args .marks)) (ForbiddenBelow (now (c .args .words)) (now (c .args .marks))) (c .args .spot) (b .0) (b .1)
+
+-- and broken
+can : (c : tie.Start) → Breakable (now (c .args .words)) (now (c .args .marks)) (c .args .spot)
+can c = let b = c .pre .1 .broken in breach-can (now (c .args .marks)) (c .pre .0 .accepted) (ForbiddenBelow (now (c .args .words)) (now (c .args .marks))) (c .args .spot) (b .0) (b .1)
 
 first-privilege-requires : tie.Need-first-privilege-requires
 first-privilege-requires c κs =
@@ -24,16 +30,28 @@ numbers-at-requires c κs =
     let start = c .before .before .before in
     (start .pre .0 .accepted, is-type start, c .first-privilege .ensures .is)
 
-tally-at-requires : tie.Need-tally-at-requires
-tally-at-requires c κs = let pre = c .before .before .before .before .pre in (pre .0, c .numbers-at .ensures, pre .1 .broken)
+breaker-at-requires : tie.Need-breaker-at-requires
+breaker-at-requires c κs = let start = c .before .before .before .before in (start .pre .0, c .numbers-at .ensures, can start)
 
-chain-at-requires : tie.Need-chain-at-requires
-chain-at-requires c κs = let pre = c .before .before .before .before .before .pre in (pre .0, c .before .numbers-at .ensures, pre .1 .broken)
+tally-by-requires : tie.Need-tally-by-requires
+tally-by-requires c κs = let pre = c .before .before .before .before .before .pre in (pre .0, c .breaker-at .ensures, pre .1 .broken)
+
+breach-with-requires : tie.Need-breach-with-requires
+breach-with-requires c κs = let start = c .before .before .before .before .before .before in (start .pre .0, c .before .before .numbers-at .ensures, can start)
 
 returns : tie.Need-returns
 returns c =
     let told = c .before in
-    tally-first _ _ (told .before .before .before .before .before .before .pre .1) (told .before .tally-at .ensures) (told .chain-at .ensures)
+    let with = c .breach-with .ensures in
+    tally-first _ _ (rw (with .at) (told .before .before .before .before .before .before .pre .1)) (rw (with .at, with .privilege, with .forbidden) (told .tally-by .ensures)) (rw (with .at) (with .chain))
 
 pub breach-of-spec : {M : Type 1} → statement M
-breach-of-spec = tie.close (tie.spec first-privilege-requires numbers-at-requires tally-at-requires chain-at-requires returns)
+breach-of-spec =
+    tie.close
+    (tie.spec
+    first-privilege-requires
+    numbers-at-requires
+    breaker-at-requires
+    tally-by-requires
+    breach-with-requires
+    returns)

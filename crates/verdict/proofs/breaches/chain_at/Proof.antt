@@ -1,13 +1,14 @@
 -- By the condition of the spot. Assumes nothing.
 use borrow.Author.Needs.{needs}
 use denote.Ref.{now}
+use Rattle.verdict.specs.steps.Breakers.{Anything}
 use Rattle.verdict.proofs.Breakers.{BrokenAs, broken-as, no-steps, chain-steps, cycle-steps}
 use Rattle.verdict.proofs.breaches.chain_at.Statement.{statement}
 use Rattle.verdict.proofs.breaches.chain_at.Tie as tie
 
 -- the spot is broken as its condition says
-broken : (c : tie.Start) → BrokenAs (now (c .args .words)) (now (c .args .marks)) (c .args .spot) (c .pre .2 .0)
-broken c = broken-as _ _ (c .args .spot) (c .pre .2 .0) (c .pre .2 .1)
+broken : (c : tie.Start) → BrokenAs (now (c .args .words)) (now (c .args .marks)) Anything (c .args .spot) (c .pre .2 .0)
+broken c = broken-as _ _ Anything (c .args .spot) (c .pre .2 .0) (c .pre .2 .1)
 
 enum-told : tie.Need-enum-told
 enum-told c = search needs

@@ -4,14 +4,15 @@ use native.Mathlib.Omega.{arith}
 use Prim.Native.Nat.{ℕ}
 use mathlib.Core.Logic.{_⊎_, inl, inr}
 use denote.Ref.{now}
-use mathlib.Core.Path.{_≡_, _∙_}
+use mathlib.Core.Path.{_≡_, refl, _∙_}
 use Rattle.policy.specs.Renewed.{Barred}
 use Rattle.table.proofs.Facts.{facts, has-children}
 use Rattle.table.proofs.Privileges.{exchange-in}
 use Rattle.policy.proofs.Renewals.{barred-out, barred-into}
-use Rattle.verdict.proofs.Breakers.{barred-tally, below-tally, star-renewed, unbarred}
-use Rattle.verdict.proofs.breaches.star_tally.Statement.{statement}
-use Rattle.verdict.proofs.breaches.star_tally.Tie as tie
+use Rattle.verdict.specs.steps.Breakers.{exchange, star}
+use Rattle.verdict.proofs.Breakers.{unbarred}
+use Rattle.verdict.proofs.breaches.star_breaker.Statement.{statement}
+use Rattle.verdict.proofs.breaches.star_breaker.Tie as tie
 
 -- the tags of the other two
 other : (_≡_ {A = ℕ} 1 0) ⊎ (_≡_ {A = ℕ} 1 2) → ⊥
@@ -32,35 +33,20 @@ returns c =
     let told = c .before in
     let p = told .before .before .before .before .before .pre in
     let barred = barred-out (p .1) (p .2) (rw (told .enum-told .given .1) at (told .before .before .renewal-of .ensures)) in
-    barred-tally _ _ barred (c .exchange .ensures ∙ exchange-in (p .1))
+    exchange refl barred (c .exchange .ensures ∙ exchange-in (p .1))
 
 child-at-requires : tie.Need-child-at-requires
 child-at-requires c κs = let p = c .before .before .before .before .pre in has-children (p .0 .accepted) (p .2 .type)
 
-forbidden-below-requires : tie.Need-forbidden-below-requires
-forbidden-below-requires c κs =
-    let start = c .before .before .before .before .before in
-    let p = start .pre in
-    let f = facts (p .0 .accepted) in
-    (p .0, rw (c .child-at .ensures) (f .child-inside (start .args .x) 0 (p .2 .type) (omega (arith, f .star-one (start .args .x) (p .2)))))
-
 returns-2 : tie.Need-returns-2
 returns-2 c =
-    let told = c .before .before in
+    let told = c .before in
     let start = told .before .before .before .before in
     let p = start .pre in
+    let f = facts (p .0 .accepted) in
     let renewal = told .before .renewal-of in
     let free : ¬ Barred (now (start .args .words)) (now (start .args .marks)) (start .args .x) = λ b. unbarred (renewal .result) (renewal .ensures) (λ e. other (rw e at (told .match .keys2))) (barred-into (p .1) b) in
-    below-tally _ _ free (star-renewed _ _ free (p .3 .1)) (rw (c .before .child-at .ensures) at (c .forbidden-below .ensures))
+    star {y = c .child-at .result} refl free (rw (c .child-at .ensures) (f .child-inside (start .args .x) 0 (p .2 .type) (omega (arith, f .star-one (start .args .x) (p .2))))) (c .child-at .ensures)
 
-pub star-tally-spec : {M : Type 1} → statement M
-star-tally-spec =
-    tie.close
-    (tie.spec
-    renewal-of-requires
-    enum-told
-    exchange-requires
-    returns
-    child-at-requires
-    forbidden-below-requires
-    returns-2)
+pub star-breaker-spec : {M : Type 1} → statement M
+star-breaker-spec = tie.close (tie.spec renewal-of-requires enum-told exchange-requires returns child-at-requires returns-2)
