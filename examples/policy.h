@@ -1,5 +1,5 @@
 /*
- * Policies in files, for the examples that read several: the table's words (low byte first) and then the marks, as samples/README.md has it.
+ * Policies in files, for the examples that read some: the table's words (low byte first) and then the marks, as samples/README.md has it.
  */
 #ifndef EXAMPLES_POLICY_H
 #define EXAMPLES_POLICY_H
@@ -37,7 +37,7 @@ static const uint8_t *marks_of(const struct policy *p)
 }
 
 /* Stops if the policy of a file is not of the first one's table. */
-static void stop_if_other(const char *file, const struct policy *first, const struct policy *own)
+static inline void stop_if_other(const char *file, const struct policy *first, const struct policy *own)
 {
     if (own->words_length != first->words_length || memcmp(own->words, first->words, own->words_length * sizeof own->words[0]) != 0)
         stop(file, "another table than that of the first file");

@@ -1,4 +1,4 @@
-//! Policies in files, for the examples that read several: the table's words (low byte first) and then the marks, as samples/README.md has it.
+//! Policies in files, for the examples that read some: the table's words (low byte first) and then the marks, as samples/README.md has it.
 
 pub struct Policy {
     pub words: Vec<u16>,

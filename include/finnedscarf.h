@@ -1,17 +1,18 @@
 /*
  * Finnedscarf: checks a schema table, reads one from DTD text, judges a policy of edits on it, completes the policy, or those of all roles of
  * a show at once, mends it, judges a mend that somebody proposes, carries its marks over when the schema is revised, counts the roles of a month on
- * a sheet, adds two sheets, and writes and reads a policy as a listing that people can mail. Judging, completing and mending one policy and judging
- * a mend are there as well for one that is kept as two bit maps. The sixteen calls are proved to answer as said here for every input; nothing checks
- * this header against them but tests/store.
+ * a sheet, adds two sheets, writes and reads a policy as a listing that people can mail, and edits one mark of a policy without going over it all
+ * again. Judging, completing and mending one policy and judging a mend are there as well for one that is kept as two bit maps. The seventeen calls
+ * are proved to answer as said here for every input; nothing checks this header against them but tests/store.
  *
  * Build the library with `rt staticlib store` and link target/staticlib/libstore.a (x86-64 Linux). For C99 or C++11, or later.
  *
  * What is lent
- *   Each run is a pointer to its first item and the number of its items. With length 0 the pointer may be any, also NULL; else it is never
- *   NULL. What a call may write, which is `numbers`, `out`, `lost`, `out_allowed`, `out_forbidden` and `counts`, overlaps no other run of the call;
- *   all other runs are only read. Nothing else may write to a lent run during the call. A call keeps nothing: no pointer, no state, no memory that
- *   must be freed. The number of a month's roles, `roles`, and the format of a listing, `format`, are no runs, and sheets are handed over whole.
+ *   Each run is a pointer to its first item and the number of its items. With length 0 the pointer may be any, also NULL; else it is never NULL. What
+ *   a call may write, which is `numbers`, `out`, `lost`, `out_allowed`, `out_forbidden` and `counts`, and where a mark is edited `marks` and `kept`,
+ *   overlaps no other run of the call; all other runs are only read. Nothing else may write to a lent run during the call. A call keeps nothing: no
+ *   pointer, no state, no memory that must be freed. The number of a month's roles, `roles`, the format of a listing, `format`, and an edit,
+ *   `privilege` and `mark`, are no runs, and sheets are handed over whole.
  *
  * The table
  *   A run of 16-bit words: 8 words of header, three words for each of the E types, then the C entries of the child list.
@@ -57,6 +58,13 @@
  *   and in format 2 also `+ job replace layer layer` and `- state replace draft draft`. A declared type has its name in the text, and a made type
  *   `#` and its number in decimal without leading zeros: `#12`. Nothing else stands in a listing: no other blank, no empty line, no carriage return,
  *   no comment. Without a line it is that of the policy in which all is unset. None is over 446,464 bytes, 4,096 lines of 109.
+ *
+ * The kept entries
+ *   What an editor of policies keeps beside the marks, from one edited mark to the next: two 16-bit words for each type t, its entry. Word 2t is the
+ *   lowest forbidden privilege below t, and word 2t + 1 how many forbidden privileges are below t, each counted once even if two paths lead to it;
+ *   both are 0 if there is none. A privilege is below t if it is one of t, or of a type that is reached from t by going to children.
+ *   It begins with marks and entries that are all 0: the policy in which all is unset, and its entries. Those of a policy that is there already are
+ *   got by editing its set marks in, from that beginning.
  */
 #ifndef FINNEDSCARF_H
 #define FINNEDSCARF_H
@@ -86,7 +94,7 @@ enum {
  * once, 11 and 16 are numbers of a role and not of the call: they come after 12. Where a month's roles are counted, neither is a number. Over maps
  * 23 and 24 stand in place of 11. Where marks are carried over, 1 to 9 and 19 are the old table's; those of the new table are raised by 100, to 101
  * to 109 and 119, and come after 11. Where a listing is written or read, 1 is the format's and comes first of all, and of 25 and 26 the earlier line
- * decides.
+ * decides. Where a mark is edited, 10 and 11 are the marks', and then once more the edit's.
  */
 enum {
     FINNEDSCARF_DONE = 0,             /* done; place: V for a table that is checked or read, the length of a listing that is written, else 0 */
@@ -103,8 +111,9 @@ enum {
     FINNEDSCARF_ON_CYCLE = 19,        /* a type on a cycle; place: type */
     FINNEDSCARF_ORPHAN = 8,           /* a type that is not reached from the root; place: type */
     FINNEDSCARF_TOTAL = 9,            /* V is over 4096 or word 7 is not V */
-    FINNEDSCARF_MARKS_LENGTH = 10,    /* marks not V long; of all roles, or of a month's: not V for each; a map not V / 8 bytes long, rounded up */
-    FINNEDSCARF_MARK = 11,            /* a mark above 2; place: privilege */
+    FINNEDSCARF_MARKS_LENGTH = 10,    /* marks not V long; of all roles, or of a month's: not V for each; a map not V / 8 bytes long, rounded up; of
+                                         an edit: its privilege is not below V */
+    FINNEDSCARF_MARK = 11,            /* a mark above 2, also that of an edit; place: privilege */
     FINNEDSCARF_BOTH = 23,            /* a privilege whose bit is set in both maps; place: privilege */
     FINNEDSCARF_SPARE = 24,           /* a spare bit set in either map */
     FINNEDSCARF_NEW_TABLE = 100,      /* no number by itself: what is added to 1 to 9 or 19 if the new table has that fault; place: as there */
@@ -115,7 +124,7 @@ enum {
     FINNEDSCARF_ORDER = 26,           /* a line of a listing whose privilege is not above that of the line before; place: its first byte */
     FINNEDSCARF_SHORT = 12,           /* result shorter than V, of all roles than V for each, than the table that is read, or than the listing that
                                          is written; a result map shorter than V / 8 bytes, rounded up; of marks carried over: `out` than the new V,
-                                         or `lost` than the old V; of sheets: a run of counts than 3 * V */
+                                         or `lost` than the old V; of sheets: a run of counts than 3 * V; of an edit: `kept` than 2 * E */
     FINNEDSCARF_SHEET_REFUSED = 29,   /* a sheet that is to be added was itself refused: its number is not 0; place: 0 if `sheet` was, else 1 */
     FINNEDSCARF_SUM = 30,             /* a sum that 32 bits do not hold; place: the lowest privilege with such a sum among its three counts, or V if
                                          only numbers of roles have one */
@@ -318,6 +327,22 @@ finnedscarf_outcome finnedscarf_read_listing(const uint8_t *text, size_t text_le
                                              size_t listing_length, uint8_t *out, size_t out_length);
 
 /*
+ * Edits one mark of a policy, and judges it by the kept entries, so that what is forbidden below each type is not looked for anew. If it is done it
+ * answers 0 with the first breach, zeros if the policy is clean. marks[privilege] is then `mark`, and the entries of all types that the privilege is
+ * below are those of the new marks, whatever `kept` held there; all other marks stay, and all other words of `kept`, also those behind its first
+ * 2 * E. 512 words are enough for every table.
+ * From marks and entries of 0 on, after any number of calls, done or refused, the entries are those of the marks, and a done call answers what
+ * finnedscarf_judge_policy answers on the new marks. From any other run the entries that are written are right too, but the verdict goes by what
+ * `kept` then holds: nothing is forbidden below a child if the second word of its entry is 0, and else `privilege` and `forbidden` are the two words
+ * of that entry as they stand, be the first the number of a privilege or not. Condition 2, and the star's replace in condition 1, go by the marks
+ * alone.
+ * Or 1 to 9 or 19 for the table, 10 or 11 for the marks, then 10 if `privilege` is not below V, 11 with it as place if `mark` is above 2, or 12 if
+ * `kept` is shorter than 2 * E, in this order. A refusal leaves `marks` and `kept` as they were.
+ */
+finnedscarf_outcome finnedscarf_edit_mark(const uint16_t *words, size_t words_length, uint8_t *marks, size_t marks_length, uint16_t *kept,
+                                          size_t kept_length, size_t privilege, uint8_t mark);
+
+/*
  * The library itself never gets NULL, not even with length 0. So the names above reach the functions below, in a call and where an
  * address is taken: each makes the exported call of its name, and lends the address of an item of its own for an empty run.
  */
@@ -476,6 +501,16 @@ static inline finnedscarf_outcome finnedscarf_read_listing_lent(const uint8_t *t
                                     FINNEDSCARF_LENT(out, no_byte));
 }
 
+static inline finnedscarf_outcome finnedscarf_edit_mark_lent(const uint16_t *words, size_t words_length, uint8_t *marks,
+                                                             size_t marks_length, uint16_t *kept, size_t kept_length, size_t privilege,
+                                                             uint8_t mark)
+{
+    uint16_t no_word = 0;
+    uint8_t no_byte = 0;
+    return finnedscarf_edit_mark(FINNEDSCARF_LENT(words, no_word), FINNEDSCARF_LENT(marks, no_byte), FINNEDSCARF_LENT(kept, no_word),
+                                 privilege, mark);
+}
+
 #undef FINNEDSCARF_LENT
 
 #define finnedscarf_check_table finnedscarf_check_table_lent
@@ -494,6 +529,7 @@ static inline finnedscarf_outcome finnedscarf_read_listing_lent(const uint8_t *t
 #define finnedscarf_add_sheets finnedscarf_add_sheets_lent
 #define finnedscarf_write_listing finnedscarf_write_listing_lent
 #define finnedscarf_read_listing finnedscarf_read_listing_lent
+#define finnedscarf_edit_mark finnedscarf_edit_mark_lent
 
 #ifdef __cplusplus
 }

@@ -407,6 +407,34 @@ static void run_read_listing(size_t number)
     put_written(number, "read_listing", told, out, n);
 }
 
+/*
+ * The calls on a case of kind 9, one for each edit, which is two numbers: the privilege and the mark. Each starts from what the one before left. A
+ * mark over 255, or half an edit, is an error.
+ */
+static void run_edit(size_t number)
+{
+    static uint16_t words[MOST], kept[MOST];
+    static uint8_t marks[MOST];
+    static uint32_t edits[MOST];
+    size_t w = read_words(words);
+    size_t m = read_bytes(marks);
+    size_t k = read_words(kept);
+    size_t e = read_numbers(edits);
+    if (e % 2)
+        exit(2);
+
+    for (size_t edit = 0; edit < e; edit += 2) {
+        if (edits[edit + 1] > 255)
+            exit(2);
+        put_outcome(number, "edit", finnedscarf_edit_mark(words, w, marks, m, kept, k, edits[edit], (uint8_t)edits[edit + 1]));
+        put_run(marks, m);
+        putchar(' ');
+        for (size_t t = 0; t < k; t++)
+            put_word(kept[t]);
+        putchar('\n');
+    }
+}
+
 int main(void)
 {
     for (size_t number = 0; more(); number++) {
@@ -420,6 +448,7 @@ int main(void)
         case 6: run_add_sheets(number); break;
         case 7: run_write_listing(number); break;
         case 8: run_read_listing(number); break;
+        case 9: run_edit(number); break;
         default: exit(2);
         }
     }

@@ -6,9 +6,9 @@
 #[path = "../bindings/rust/src/border.rs"]
 mod border;
 
-use finnedscarf::{add_sheets, carry_marks, check_table, complete, complete_maps, complete_roles, judge_maps, judge_mend, judge_mend_maps};
-use finnedscarf::{judge_policy, mend, mend_maps, month_sheet, read_dtd, read_listing, write_listing};
-use finnedscarf::{Breach, Condition, Maps, MapsMut, Refusal, RoleRefusal, Roles, Sheet, ALLOWED, FORBIDDEN, UNSET};
+use finnedscarf::{add_sheets, carry_marks, check_table, complete, complete_maps, complete_roles, edit_mark, judge_maps, judge_mend};
+use finnedscarf::{judge_mend_maps, judge_policy, mend, mend_maps, month_sheet, read_dtd, read_listing, write_listing};
+use finnedscarf::{Breach, Condition, Editor, Maps, MapsMut, Refusal, RoleRefusal, Roles, Sheet, ALLOWED, FORBIDDEN, UNSET};
 use std::io::{self, BufWriter, Read, Write};
 
 struct Stream(Vec<u8>, usize);
@@ -290,6 +290,36 @@ fn read_listing_lines(stream: &mut Stream) -> Vec<String> {
     vec![line("read_listing", answer) + " " + &run_text(&out)]
 }
 
+/// The editor of a case, if the marks and the entries are those of a fresh policy.
+fn fresh_editor<'a>(words: &'a [u16], marks: &[u8], kept: &[u16]) -> Option<Editor<'a>> {
+    let editor = Editor::fresh(words).ok()?;
+    let is_fresh = marks == editor.marks() && kept.starts_with(editor.entries());
+    is_fresh.then_some(editor)
+}
+
+/// The calls on a case of kind 9, one for each edit. If it begins with a fresh policy, an editor has to come to the same, and one that is opened with
+/// the marks afterwards too.
+fn edit_lines(stream: &mut Stream) -> Vec<String> {
+    let (words, mut marks, mut kept) = (stream.words(), stream.bytes(), stream.words());
+    let edits = stream.numbers();
+    let mut editor = fresh_editor(&words, &marks, &kept);
+    let edits = edits.chunks(2).map(|edit| (edit[0] as usize, edit[1].try_into().expect("a mark of at most 255")));
+    let mut edit = |(privilege, mark): (usize, u8)| {
+        let answer = edit_mark(&words, &mut marks, &mut kept, privilege, mark);
+        if let Some(editor) = &mut editor {
+            assert_eq!(editor.edit(privilege, mark), answer);
+            assert_eq!((editor.marks(), editor.entries()), (&marks[..], &kept[..2 * usize::from(words[2])]));
+        }
+        let answer = answer.map(|breach| Done { breach, ..Done::default() });
+        format!("{} {} {}", line("edit", answer), run_text(&marks), words_text(&kept))
+    };
+    let lines = edits.map(&mut edit).collect();
+    if let Some(editor) = editor {
+        assert_eq!(Editor::open(&words[..], &marks), Ok(editor));
+    }
+    lines
+}
+
 fn main() -> io::Result<()> {
     let mut stream = Stream(Vec::new(), 0);
     io::stdin().read_to_end(&mut stream.0)?;
@@ -306,6 +336,7 @@ fn main() -> io::Result<()> {
             6 => add_sheets_lines(&mut stream),
             7 => write_listing_lines(&mut stream),
             8 => read_listing_lines(&mut stream),
+            9 => edit_lines(&mut stream),
             kind => panic!("there is no kind {kind}"),
         };
         for line in lines {

@@ -106,6 +106,10 @@ BORDER(finnedscarf_read_listing,
        (const uint8_t *text, size_t text_length, uint16_t format, const uint8_t *listing, size_t listing_length, uint8_t *out,
         size_t out_length),
        (text, text_length, format, listing, listing_length, out, out_length), text && listing && out)
+BORDER(finnedscarf_edit_mark,
+       (const uint16_t *words, size_t words_length, uint8_t *marks, size_t marks_length, uint16_t *kept, size_t kept_length, size_t privilege,
+        uint8_t mark),
+       (words, words_length, marks, marks_length, kept, kept_length, privilege, mark), words && marks && kept)
 #ifdef __cplusplus
 }
 #endif
@@ -138,6 +142,8 @@ static finnedscarf_sheet (*const add_sheets)(const uint16_t *, size_t, finnedsca
 typedef finnedscarf_outcome lists(const uint8_t *, size_t, uint16_t, const uint8_t *, size_t, uint8_t *, size_t);
 static lists *const write_listing = &finnedscarf_write_listing;
 static lists *const read_listing = finnedscarf_read_listing;
+static finnedscarf_outcome (*const edit_mark)(const uint16_t *, size_t, uint8_t *, size_t, uint16_t *, size_t, size_t, uint8_t) =
+    &finnedscarf_edit_mark;
 
 /* Two tables of one type, which is empty and has no privilege, or a text and has one: V is the table's place here. The same as DTD text. */
 static const uint16_t tables[2][11] = {{1, 11, 1, 0, 8, 0, 11, 0, 0, 0, 0}, {1, 11, 1, 0, 8, 0, 11, 1, 1, 0, 0}};
@@ -629,7 +635,60 @@ static void try_listing(int call, int address, size_t v, uint16_t format, int em
     }
 }
 
-/* The table that is read, and the numbers of the roles, are empty runs of words that a call may write, and the counts one of numbers. */
+/* The third run of editing a mark is the kept entries. */
+enum { KEPT = 4 };
+
+/* Edits of the only privilege, with each mark and one that is none, and of privileges that are not there. */
+static const struct {
+    size_t privilege;
+    uint8_t mark;
+} edits[] = {
+    {0, FINNEDSCARF_UNSET}, {0, FINNEDSCARF_ALLOWED}, {0, FINNEDSCARF_FORBIDDEN},        {0, 3},
+    {0, 255},               {1, FINNEDSCARF_ALLOWED}, {SIZE_MAX, FINNEDSCARF_FORBIDDEN}, {SIZE_MAX, 255},
+};
+enum { EDITS = sizeof edits / sizeof edits[0] };
+
+static size_t edit_number(size_t v, size_t edit, int empty)
+{
+    if (empty & WORDS)
+        return FINNEDSCARF_FORMAT;
+    if ((v && empty & MARKS) || edits[edit].privilege >= v)
+        return FINNEDSCARF_MARKS_LENGTH;
+    if (edits[edit].mark > 2)
+        return FINNEDSCARF_MARK;
+    return empty & KEPT ? FINNEDSCARF_SHORT : FINNEDSCARF_DONE;
+}
+
+/* Edits a mark in a call in which some runs are empty: those that are given, which are all empty. An entry is written, whatever it was. */
+static void try_edit(int address, size_t v, size_t edit, int empty, struct runs none, uint16_t *no_words)
+{
+    size_t privilege = edits[edit].privilege;
+    uint8_t mark = edits[edit].mark, marks[2] = {allowed[0], 9};
+    uint16_t kept[3] = {9, 9, 9};
+    const uint16_t *words = empty & WORDS ? none.words : tables[v];
+    uint8_t *marks_lent = empty & MARKS ? none.third : marks;
+    uint16_t *kept_lent = empty & KEPT ? no_words : kept;
+    size_t w = empty & WORDS ? 0 : 11, m = empty & MARKS ? 0 : v, k = empty & KEPT ? 0 : 3;
+    finnedscarf_outcome o = address ? edit_mark(words, w, marks_lent, m, kept_lent, k, privilege, mark)
+                                    : finnedscarf_edit_mark(words, w, marks_lent, m, kept_lent, k, privilege, mark);
+
+    size_t number = edit_number(v, edit, empty);
+    int done = number == FINNEDSCARF_DONE, first = done ? mark : allowed[0];
+    int lowest = done ? 0 : 9, count = done ? mark == FINNEDSCARF_FORBIDDEN : 9;
+    int right = marks[0] == first && marks[1] == 9 && kept[0] == lowest && kept[1] == count && kept[2] == 9;
+    if (o.number != number || o.place || o.count || has_breach(o) || !right) {
+        printf("tests/null: edit_mark by %s, V %zu, privilege %zu, mark %d, empty runs %d: number %zu, place %zu, marks %d %d, kept %d %d %d, "
+               "where %zu, 0, %d 9, %d %d 9 and no breach is right\n",
+               address ? "address" : "name", v, privilege, mark, empty, o.number, o.place, marks[0], marks[1], kept[0], kept[1], kept[2],
+               number, first, lowest, count);
+        exit(1);
+    }
+}
+
+/*
+ * The table that is read, the numbers of the roles and the kept entries are empty runs of words that a call may write, and the counts one of
+ * numbers.
+ */
 static size_t try_all(struct runs none, uint16_t *no_words, uint32_t *no_numbers)
 {
     size_t tried = 0;
@@ -672,6 +731,11 @@ static size_t try_all(struct runs none, uint16_t *no_words, uint32_t *no_numbers
                 for (uint16_t format = 0; format < 4; format++)
                     for (int empty = 0; empty < 8; empty++, tried++)
                         try_listing(call, address, v, format, empty, none);
+    for (int address = 0; address < 2; address++)
+        for (size_t v = 0; v < 2; v++)
+            for (size_t edit = 0; edit < EDITS; edit++)
+                for (int empty = 0; empty < 8; empty++, tried++)
+                    try_edit(address, v, edit, empty, none, no_words);
     return tried;
 }
 

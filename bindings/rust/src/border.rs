@@ -201,6 +201,21 @@ pub fn read_listing(text: &[u8], format: u16, listing: &[u8], out: &mut [u8]) ->
     }
 }
 
+pub fn edit_mark(words: &[u16], marks: &mut [u8], kept: &mut [u16], privilege: usize, mark: u8) -> Outcome {
+    unsafe {
+        finnedscarf_edit_mark(
+            words.as_ptr(),
+            words.len(),
+            marks.as_mut_ptr(),
+            marks.len(),
+            kept.as_mut_ptr(),
+            kept.len(),
+            privilege,
+            mark,
+        )
+    }
+}
+
 #[link(name = "store", kind = "static")]
 extern "C" {
     fn finnedscarf_check_table(words: *const u16, words_length: usize) -> Outcome;
@@ -334,5 +349,15 @@ extern "C" {
         listing_length: usize,
         out: *mut u8,
         out_length: usize,
+    ) -> Outcome;
+    fn finnedscarf_edit_mark(
+        words: *const u16,
+        words_length: usize,
+        marks: *mut u8,
+        marks_length: usize,
+        kept: *mut u16,
+        kept_length: usize,
+        privilege: usize,
+        mark: u8,
     ) -> Outcome;
 }

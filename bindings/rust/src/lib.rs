@@ -1,13 +1,14 @@
 //! Safe calls of Finnedscarf, the proved policy checker: checks a schema table, reads one from DTD text, judges a policy of edits on it,
 //! completes the policy, or those of all roles of a show at once, mends it, judges a mend that somebody proposes, carries its marks over when
-//! the schema is revised, counts the roles of a month on a [`Sheet`], adds two of these, and writes and reads a policy as a listing that people
-//! can mail. Judging, completing and mending one policy and judging a mend are there as well for one that is kept as two bit maps ([`Maps`]).
+//! the schema is revised, counts the roles of a month on a [`Sheet`], adds two of these, writes and reads a policy as a listing that people can
+//! mail, and edits one mark of a policy without going over it all again ([`Editor`]). Judging, completing and mending one policy and judging a mend
+//! are there as well for one that is kept as two bit maps ([`Maps`]).
 //!
 //! `words` is the schema table and `marks` the policy, one byte for each of its V privileges: [`UNSET`], [`ALLOWED`] or [`FORBIDDEN`].
 //! `include/finnedscarf.h` has the layout of the table, the table of a DTD text, the numbers of the privileges and the lines of a listing. Word 0
 //! of a table is its format, 1 or 2; in format 2 there are privileges to replace an element by another of its own kind too. Every call takes every
 //! input: what is no table, no DTD text, no policy or no listing is a [`Refusal`], and a refused call leaves everything that it was lent as it was.
-//! No call allocates, and none keeps anything.
+//! No call allocates, and none keeps anything; what an [`Editor`] keeps from click to click is its own.
 //!
 //! ```
 //! use finnedscarf::{judge_policy, ALLOWED, FORBIDDEN, UNSET};
@@ -35,12 +36,14 @@
 //! variable `FINNEDSCARF_LIB` names; for rustc it is `-L native=target/staticlib` where this crate is compiled.
 
 mod border;
+mod editor;
 mod listing;
 mod maps;
 mod roles;
 mod sheet;
 
 use border::Outcome;
+pub use editor::{edit_mark, Editor};
 pub use listing::{read_listing, write_listing, MOST_LISTING};
 pub use maps::{Maps, MapsMut};
 pub use roles::{RoleRefusal, Roles};
@@ -197,14 +200,15 @@ impl fmt::Display for Refusal {
             9 => write!(f, "over 4,096 privileges, or word 7 is not their number"),
             10 => write!(
                 f,
-                "not one mark for each privilege (with many roles at once: of each role; over maps: not one bit for each, rounded up to bytes)"
+                "not one mark for each privilege (with many roles at once: of each role; over maps: not one bit for each, rounded up to bytes), \
+                 or an edit of a privilege that is not there"
             ),
             11 => write!(f, "a mark above 2 at privilege {place}"),
             12 => write!(
                 f,
                 "result shorter than the number of privileges (with all roles at once: for each role; over maps: in bits; of marks carried \
-                 over: either result; of sheets: than three counts for each privilege), than the table that is read, or than the listing that is \
-                 written"
+                 over: either result; of sheets: than three counts for each privilege; of an edit: kept entries than two words for each type), \
+                 than the table that is read, or than the listing that is written"
             ),
             13 => write!(f, "not one proposed mark for each privilege (over maps: not one bit for each, rounded up to bytes)"),
             14 => write!(
