@@ -24,6 +24,8 @@ use Rattle.maps.specs.Answers.{JudgeMapsAnswer, ProposeMapsAnswer, CompleteMaps
 use Rattle.maps.proofs.Agreed.{judge-maps-one, propose-maps-one, complete-maps-one, mend-maps-one}
 use Rattle.carry.specs.Answers.{CarryAnswer}
 use Rattle.carry.proofs.Answers.{carry-one}
+use Rattle.editing.specs.Answer.{EditAnswer}
+use Rattle.editing.proofs.Answered.{edit-one}
 use Rattle.store.specs.Outcomes.{outcomeOf, Placed, Told}
 use Rattle.store.specs.declared.Outcome.{Outcome}
 
@@ -94,3 +96,7 @@ module _ {ws : List ℕ} {m : Maps} {o p : Outcome} where
 pub carry-outcome : {old marks new numbers out lost x l y k : List ℕ} {o p : Outcome} → Told (λ a. CarryAnswer old marks new numbers out lost a x l) o
     → Told (λ a. CarryAnswer old marks new numbers out lost a y k) p → (o ≡ p) × (x ≡ y) × (l ≡ k)
 carry-outcome s t = let one = carry-one (s .promised) (t .promised) in (told-one s t (one .0), one .1, one .2)
+
+pub edit-outcome : {ws marks kept x k y l : List ℕ} {privilege mark : ℕ} {o p : Outcome} → Told (λ a. EditAnswer ws marks kept privilege mark a x k) o
+    → Told (λ a. EditAnswer ws marks kept privilege mark a y l) p → (o ≡ p) × (x ≡ y) × (k ≡ l)
+edit-outcome s t = let one = edit-one (s .promised) (t .promised) in (told-one s t (one .0), one .1, one .2)

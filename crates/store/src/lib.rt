@@ -1,4 +1,4 @@
-// The sixteen calls for programs in C and Rust: runs and lengths in, an outcome or a sheet out. include/finnedscarf.h declares them.
+// The seventeen calls for programs in C and Rust: runs and lengths in, an outcome or a sheet out. include/finnedscarf.h declares them.
 // Contracts cite specs/Outcomes for the outcome, and the definitions of the crate that makes the call for the answer and for the sheet.
 ghost use mathlib.Core.Path.{_≡_};
 ghost use Rattle.table.specs.Check.{TableAnswer};
@@ -13,12 +13,14 @@ ghost use Rattle.maps.specs.Answers.{JudgeMapsAnswer, CompleteMapsAnswer, MendM
 ghost use Rattle.carry.specs.Answers.{CarryAnswer};
 ghost use Rattle.sheet.specs.Answers.{MonthAnswer};
 ghost use Rattle.adding.specs.Answers.{AddAnswer};
+ghost use Rattle.editing.specs.Answer.{EditAnswer};
 ghost use Rattle.mail.specs.Answers.{WriteAnswer, ReadAnswer};
 ghost use Rattle.store.specs.Outcomes.{outcomeOf, Placed, Told};
 use adding::add_sheets;
 use carry::carry_marks;
 use completion::complete;
 use dtd::read_dtd;
+use editing::edit_mark;
 use mail::read_listing;
 use mail::write_listing;
 use maps::complete_maps;
@@ -273,4 +275,19 @@ pub extern "C" fn finnedscarf_read_listing(
 {
     let told = read_listing(text, format, listing, out);
     outcome_of(refused(told.number, told.place))
+}
+
+// Edits one mark and judges by the kept entries: refuses with 1 to 12 or 19 and leaves the marks and the entries as they were, or answers 0 with the first
+// breach, zeros where there is none, writes the mark and the entries of the types that the privilege is below, and keeps all else of both.
+#[no_mangle]
+pub extern "C" fn finnedscarf_edit_mark(
+    words: &[u16],
+    marks: &mut [u8],
+    kept: &mut [u16],
+    privilege: usize,
+    mark: u8,
+) -> Outcome
+    ensures { λ r. ⌜ Told (λ a. EditAnswer (now (words .entry)) (now (marks .entry)) (now (kept .entry)) privilege mark a (now (marks .exit)) (now (kept .exit))) r ⌝ }
+{
+    outcome_of(edit_mark(words, marks, kept, privilege, mark))
 }
