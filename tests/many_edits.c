@@ -2,8 +2,8 @@
  * Edits very many marks one after another, from a fresh policy on, over a table of format 2 with as many types and privileges as there may be, and
  * all child entries but one. Each privilege is set once, and unset 400 turns later, so that verdicts of all kinds come: after each edit it must be
  * that of the call that judges the whole policy, and the entries must be those that are worked out here anew. In between come edits that are refused,
- * which change nothing. The kept run is longer than 16 bits count, and what is behind the entries stays. Then edits with entries that are none of the
- * marks'.
+ * which change nothing. Then all privileges but the root's are forbidden in turn. The kept run is longer than 16 bits count, and what is behind the
+ * entries stays. Last come edits with entries that are none of the marks'.
  */
 #include <stdio.h>
 #include <string.h>
@@ -141,6 +141,13 @@ static int is_turn_made(size_t turn)
     return made && (turn < SET_FOR || is_edited(privilege_of(turn - SET_FOR), FINNEDSCARF_UNSET, ENTRIES));
 }
 
+/* The root's three are allowed, and all others, in the end 4,093, are forbidden. */
+static int is_turn_forbidden(size_t turn)
+{
+    size_t privilege = privilege_of(turn);
+    return is_edited(privilege, privilege < first[1] ? FINNEDSCARF_ALLOWED : FINNEDSCARF_FORBIDDEN, ENTRIES);
+}
+
 /* Edits that are refused, with so many words of the kept run, and the number and the place of the answer. */
 struct refusal {
     size_t privilege;
@@ -210,6 +217,11 @@ int main(void)
             return 1;
         }
     }
+    for (size_t turn = 0; turn < PRIVILEGES; turn++)
+        if (!is_turn_forbidden(turn)) {
+            printf("tests/many_edits: turn %zu of forbidding all: not as known\n", turn);
+            return 1;
+        }
     for (size_t condition = 0; condition < 4; condition++)
         if (told_of[condition] == 0) {
             printf("tests/many_edits: no verdict with condition %zu\n", condition);

@@ -69,6 +69,11 @@ fn entries(below: &[Vec<usize>], marks: &[u8]) -> Vec<u16> {
     below.iter().flat_map(entry).collect()
 }
 
+/// The privilege of a turn: each comes once.
+fn privilege_of(turn: usize) -> usize {
+    17 * turn % PRIVILEGES
+}
+
 /// What is edited, and the editor beside it.
 struct Edited {
     words: Vec<u16>,
@@ -111,10 +116,15 @@ impl Right {
     }
 
     fn is_turn_made(&mut self, edited: &mut Edited, turn: usize) -> bool {
-        let privilege_of = |turn| 17 * turn % PRIVILEGES;
         let mark = if turn % 9 == 0 { FORBIDDEN } else { ALLOWED };
         let made = self.is_edited(edited, privilege_of(turn), mark, KEPT_WORDS);
         made && (turn < SET_FOR || self.is_edited(edited, privilege_of(turn - SET_FOR), UNSET, ENTRIES))
+    }
+
+    /// The root's three are allowed, and all others are forbidden.
+    fn is_turn_forbidden(&mut self, edited: &mut Edited, turn: usize) -> bool {
+        let privilege = privilege_of(turn);
+        self.is_edited(edited, privilege, if privilege < 3 { ALLOWED } else { FORBIDDEN }, ENTRIES)
     }
 
     /// The editor has all its entries, so that it is refused with 10 and 11 alone.
@@ -178,6 +188,12 @@ fn main() -> ExitCode {
         let refusal = turn % REFUSALS.len();
         if !right.is_refused(&mut edited, REFUSALS[refusal]) {
             println!("tests/many_edits: refusal {refusal} in turn {turn}: not as known");
+            return ExitCode::FAILURE;
+        }
+    }
+    for turn in 0..PRIVILEGES {
+        if !right.is_turn_forbidden(&mut edited, turn) {
+            println!("tests/many_edits: turn {turn} of forbidding all: not as known");
             return ExitCode::FAILURE;
         }
     }
