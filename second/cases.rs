@@ -3,6 +3,7 @@
 use crate::calls::{Call, Told};
 use crate::carry_case::{self, CarryCase};
 use crate::dtd_case::{self, DtdCase};
+use crate::edit_case::{self, EditCase};
 use crate::fail;
 use crate::format::Format;
 use crate::listing_case::{self, ListingCase};
@@ -23,6 +24,7 @@ pub enum Case {
     Sum(SumCase),
     Write(ListingCase),
     Read(ListingCase),
+    Edit(EditCase),
 }
 
 impl Case {
@@ -37,6 +39,7 @@ impl Case {
             sum_case::KIND => Case::Sum(SumCase::read(stream)),
             listing_case::WRITE => Case::Write(ListingCase::read(stream)),
             listing_case::READ => Case::Read(ListingCase::read(stream)),
+            edit_case::KIND => Case::Edit(EditCase::read(stream)),
             kind => fail(&format!("there is no kind {}", kind)),
         }
     }
@@ -79,6 +82,10 @@ impl Case {
                 stream.push(listing_case::READ);
                 case.write(stream);
             }
+            Case::Edit(case) => {
+                stream.push(edit_case::KIND);
+                case.write(stream);
+            }
         }
     }
 
@@ -92,6 +99,7 @@ impl Case {
             Case::Carry(case) => case.has(format),
             Case::Sheet(case) => case.has(format),
             Case::Sum(case) => case.has(format),
+            Case::Edit(case) => case.has(format),
         }
     }
 
@@ -103,7 +111,7 @@ impl Case {
         }
     }
 
-    /// The name of each call on such a case, and what it tells.
+    /// The name of each call on such a case, and what it tells; of edits, one after another.
     pub fn tell(&self) -> Vec<(&'static str, Told)> {
         match self {
             Case::Policy(case) => tell(&policy_case::CALLS, case),
@@ -115,6 +123,9 @@ impl Case {
             Case::Sum(case) => tell(&sum_case::CALLS, case),
             Case::Write(case) => tell(&listing_case::WRITING, case),
             Case::Read(case) => tell(&listing_case::READING, case),
+            Case::Edit(case) => {
+                case.steps().into_iter().map(|(_, told)| (edit_case::CALLS[0].name, told)).collect()
+            }
         }
     }
 }

@@ -1,16 +1,18 @@
-// How often each call gave each number and each condition, and how often each situation of requests 1, 5 to 10 and 12 came.
+// How often each call gave each number and each condition, and how often each situation of requests 1 and 5 to 12 came.
 
 use crate::answers::Answer;
 use crate::calls::{Call, Told, NEW_TABLE, POLICY, TABLE};
 use crate::carry_case::{self, CarryCase};
 use crate::cases::{read_cases, Case};
 use crate::dtd_case;
+use crate::edit_case::{self, EditCase};
 use crate::format::Format;
 use crate::listing_case::{self, ListingCase};
 use crate::maps_case::{self, MapsCase};
 use crate::policy_case::{self, PolicyCase};
 use crate::roles_case::{self, RolesCase};
 use crate::sheet_case::{self, SheetCase};
+use crate::situations::edits::OfEdits;
 use crate::situations::reading::OfReading;
 use crate::situations::sheets::OfSheets;
 use crate::situations::sums::OfSums;
@@ -121,6 +123,7 @@ impl Counts {
         rows.extend(sheet_case::CALLS.iter().map(Row::of));
         rows.extend(sum_case::CALLS.iter().map(Row::of));
         rows.extend(listing_case::WRITING.iter().chain(&listing_case::READING).map(Row::of));
+        rows.extend(edit_case::CALLS.iter().map(Row::of));
         Counts { rows, total: 0 }
     }
 
@@ -202,6 +205,8 @@ pub struct Overview {
     large_writing: Found<ListingCase>,
     reading: Found<ListingCase>,
     large_reading: Found<ListingCase>,
+    edits: Found<EditCase>,
+    large_edits: Found<EditCase>,
 }
 
 impl Overview {
@@ -215,6 +220,7 @@ impl Overview {
         let [sums, large_sums] = [OfSums::USUAL, OfSums::LARGE].map(Found::new);
         let [writing, large_writing] = [OfWriting::USUAL, OfWriting::LARGE].map(Found::new);
         let [reading, large_reading] = [OfReading::USUAL, OfReading::LARGE].map(Found::new);
+        let [edits, large_edits] = [OfEdits::USUAL, OfEdits::LARGE].map(Found::new);
         let mut overview = Overview {
             all,
             of_two,
@@ -234,6 +240,8 @@ impl Overview {
             large_writing,
             reading,
             large_reading,
+            edits,
+            large_edits,
         };
         cases.for_each(|case| overview.add(&case));
         overview
@@ -256,6 +264,7 @@ impl Overview {
             Case::Sum(sum) => self.add_sum(sum),
             Case::Write(write) => self.add_write(write),
             Case::Read(read) => self.add_read(read),
+            Case::Edit(edit) => self.add_edit(edit),
         }
     }
 
@@ -293,6 +302,11 @@ impl Overview {
     fn add_read(&mut self, read: &ListingCase) {
         self.reading.add(read);
         self.large_reading.add(read);
+    }
+
+    fn add_edit(&mut self, edit: &EditCase) {
+        self.edits.add(edit);
+        self.large_edits.add(edit);
     }
 
     /// The fewest of the numbers and conditions that the calls made can give.
@@ -360,6 +374,16 @@ impl Overview {
         self.large_writing.fewest().min(self.large_reading.fewest())
     }
 
+    /// The fewest of the situations of request 11.
+    pub fn fewest_of_edits(&self) -> usize {
+        self.edits.fewest()
+    }
+
+    /// The fewest of those with as many privileges, types or children as there may be.
+    pub fn fewest_of_large_edits(&self) -> usize {
+        self.large_edits.fewest()
+    }
+
     fn text(&self) -> String {
         let tables = format!("{}\nof format 2\n{}", self.all.text(), self.of_two.text());
         let of_policies = [&self.format_two, &self.counts, &self.chains].map(Found::text);
@@ -370,7 +394,8 @@ impl Overview {
         let of_listings =
             [&self.writing, &self.large_writing, &self.reading, &self.large_reading].map(Found::text);
         let of_tables = [&of_maps[..], &of_carrying, &of_sheets, &of_sums].concat();
-        let all = [&of_policies[..], &[self.roles.text()], &of_tables, &of_listings];
+        let of_edits = [&self.edits, &self.large_edits].map(Found::text);
+        let all = [&of_policies[..], &[self.roles.text()], &of_tables, &of_listings, &of_edits];
         format!("{}\n{}", tables, all.concat().join("\n"))
     }
 }

@@ -8,6 +8,7 @@ pub mod chance;
 pub mod cycles;
 mod damage;
 pub mod dtds;
+pub mod edits;
 pub mod files;
 pub mod listings;
 pub mod maps;
@@ -26,6 +27,7 @@ use crate::table::{check_table, MOST_PRIVILEGES};
 use chance::Random;
 use cycles::long_cycle;
 use damage::spoil;
+use edits::Editing;
 use listings::reading::Reading;
 use listings::writing::Writing;
 use policies::{lent, policy, proposal};
@@ -92,10 +94,10 @@ fn policies(seed: u64, count: usize) -> impl Iterator<Item = PolicyCase> {
 
 /// So many policies of format 1, then so many DTD texts, then so many policies of format 2 or of another word 0, then so many calls on roles,
 /// then so many on bit maps, then so many that carry marks to a new table, then so many sheets of roles, then so many sums of sheets, then so
-/// many listings that are written, and then so many that are read.
+/// many listings that are written, then so many that are read, and then so many of edits.
 pub fn cases(
     seed: u64,
-    [count, dtds, second_format, roles, maps, carry, sheets, sums, writes, reads]: [usize; 10],
+    [count, dtds, second_format, roles, maps, carry, sheets, sums, writes, reads, edits]: [usize; 11],
 ) -> impl Iterator<Item = Case> {
     let of_one = policies(seed, count).map(Case::Policy).chain(dtds::cases(seed, dtds).map(Case::Dtd));
     let of_two = second_format::cases(seed, second_format).map(Case::Policy);
@@ -105,5 +107,6 @@ pub fn cases(
     let of_policies = of_one.chain(of_two).chain(roles.map(Case::Roles)).chain(maps.map(Case::Maps));
     let of_tables = of_policies.chain(carry).chain(sheets.map(Case::Sheet)).chain(sums.map(Case::Sum));
     let (writes, reads) = (bases::cases::<Writing>(seed, writes), bases::cases::<Reading>(seed, reads));
-    of_tables.chain(writes.map(Case::Write)).chain(reads.map(Case::Read))
+    let edits = bases::cases::<Editing>(seed, edits).map(Case::Edit);
+    of_tables.chain(writes.map(Case::Write)).chain(reads.map(Case::Read)).chain(edits)
 }

@@ -12,6 +12,8 @@ pub mod conditions;
 pub mod counting;
 pub mod dtd;
 pub mod dtd_case;
+pub mod edit_case;
+pub mod editing;
 mod files;
 mod forbidden_below;
 pub mod format;
@@ -48,7 +50,7 @@ use std::io::{Read, Write};
 use table::{HEADER, MOST_ENTRIES, MOST_TYPES, RECORD};
 
 const USAGE: &str =
-    "modes: judge | cases SEED COUNT DTDS SECOND_FORMAT ROLES MAPS CARRY SHEETS SUMS WRITES READS | answers | count \
+    "modes: judge | cases SEED COUNT DTDS SECOND_FORMAT ROLES MAPS CARRY SHEETS SUMS WRITES READS EDITS | answers | count \
     | files FOLDER | random SEED COUNT SECOND_FORMAT FILE... | reports | count files | dtd \
     | count dtds SEED COUNT | documents SEED COUNT FOLDER | texts SEED COUNT FOLDER | self";
 

@@ -4,11 +4,13 @@ mod carrying;
 mod chains;
 mod counts;
 pub mod dtds;
+mod edits;
 mod every;
 mod forbidden_below;
 mod listings;
 mod literal;
 mod maps;
+mod orders;
 mod policies;
 mod roles;
 mod samples;
@@ -26,6 +28,7 @@ use carrying::self_carrying;
 use chains::self_chains;
 use counts::self_counts;
 use dtds::self_dtds;
+use edits::self_edits;
 use every::self_every;
 use forbidden_below::self_forbidden_below;
 use listings::self_listings;
@@ -113,6 +116,7 @@ pub fn self_check(seed: u64, count: usize) -> String {
         self_carrying(seed, count),
         self_sheets(seed, count),
         self_listings(seed, count),
+        self_edits(seed, count),
         self_dtds(seed, count),
     ]
     .concat()

@@ -1,4 +1,4 @@
-// What requests 1, 5 to 10 and 12 bring besides numbers and conditions: the situations that a case can be in, by name.
+// What requests 1 and 5 to 12 bring besides numbers and conditions: the situations that a case can be in, by name.
 
 mod bits;
 mod breaches;
@@ -7,6 +7,8 @@ mod chains;
 mod completions;
 mod counted;
 mod counts;
+mod edited;
+pub mod edits;
 mod leading;
 mod listed;
 pub mod listing;

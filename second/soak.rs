@@ -1,6 +1,6 @@
 // Holds the exported library to the second program on fresh cases: each call, all of its answer, and every lent run afterwards.
-// second/soak builds it and runs it with SEED, COUNT, DTDS, SECOND_FORMAT, ROLES, MAPS, CARRY, SHEETS, SUMS, WRITES, READS and the folder where
-// a case that differs is kept.
+// second/soak builds it and runs it with SEED, COUNT, DTDS, SECOND_FORMAT, ROLES, MAPS, CARRY, SHEETS, SUMS, WRITES, READS, EDITS and the folder
+// where a case that differs is kept.
 
 #[path = "../bindings/rust/src/border.rs"]
 mod border;
@@ -12,6 +12,7 @@ use second::cases::{write_cases, Case};
 use second::chain::Chain;
 use second::counting::Counts;
 use second::dtd_case::{self, DtdCase};
+use second::edit_case::{self, Step};
 use second::listing_case::{self, ListingCase};
 use second::making;
 use second::maps_case::{self, MapsCase};
@@ -121,6 +122,13 @@ const READS: [fn(&ListingCase) -> Told; listing_case::READING.len()] = [|case| {
     case.writing(|text, format, listing, out| outcome_of(border::read_listing(text, format, listing, out)))
 }];
 
+/// The same on each edit of a case of kind 9.
+const EDITS: [fn(&Step) -> Told; edit_case::CALLS.len()] = [|step| {
+    step.writing(|words, marks, kept, privilege, mark| {
+        outcome_of(border::edit_mark(words, marks, kept, privilege, mark))
+    })
+}];
+
 /// Makes each call on a case by both and counts the answers, up to the first difference.
 fn compare<C: Clone + PartialEq>(
     calls: &[Call<C>],
@@ -153,6 +161,9 @@ fn compare_case(case: &Case, counts: &mut Counts) -> Result<(), String> {
         Case::Sum(case) => compare(&sum_case::CALLS, &SUMS, case, counts),
         Case::Write(case) => compare(&listing_case::WRITING, &WRITES, case, counts),
         Case::Read(case) => compare(&listing_case::READING, &READS, case, counts),
+        Case::Edit(case) => {
+            case.steps().iter().try_for_each(|(step, _)| compare(&edit_case::CALLS, &EDITS, step, counts))
+        }
     }
 }
 
@@ -173,7 +184,7 @@ fn keep(case: Case, path: &str) -> String {
     }
 }
 
-fn soak(seed: u64, sizes: [usize; 10], folder: &str) {
+fn soak(seed: u64, sizes: [usize; 11], folder: &str) {
     let mut counts = Counts::new();
     for (k, case) in making::cases(seed, sizes).enumerate() {
         if let Err(difference) = compare_case(&case, &mut counts) {
@@ -190,10 +201,10 @@ fn main() {
     let arguments: Vec<String> = std::env::args().skip(1).collect();
     let arguments: Vec<&str> = arguments.iter().map(String::as_str).collect();
     match arguments[..] {
-        [seed, count, dtds, second_format, roles, maps, carry, sheets, sums, writes, reads, folder] => {
-            let sizes = [count, dtds, second_format, roles, maps, carry, sheets, sums, writes, reads];
+        [seed, count, dtds, second_format, roles, maps, carry, sheets, sums, writes, reads, edits, folder] => {
+            let sizes = [count, dtds, second_format, roles, maps, carry, sheets, sums, writes, reads, edits];
             soak(number(seed), sizes.map(|text| number(text) as usize), folder)
         }
-        _ => fail("soak SEED COUNT DTDS SECOND_FORMAT ROLES MAPS CARRY SHEETS SUMS WRITES READS FOLDER"),
+        _ => fail("soak SEED COUNT DTDS SECOND_FORMAT ROLES MAPS CARRY SHEETS SUMS WRITES READS EDITS FOLDER"),
     }
 }

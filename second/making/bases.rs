@@ -1,4 +1,4 @@
-// Cases that are made of a schema and what belongs to it (requests 10 and 12): in turn for each number of a schema, with a large one, and for
+// Cases that are made of a schema and what belongs to it (requests 10 to 12): in turn for each number of a schema, with a large one, and for
 // the situation that came least often so far.
 
 use super::aims::Aims;

@@ -9,7 +9,7 @@ const COUNTS: [usize; 2] = [3000, 1500];
 
 pub fn self_counts(seed: u64) -> String {
     let [of_one, of_two] = COUNTS;
-    let overview = Overview::of(cases(seed, [of_one, 0, of_two, 0, 0, 0, 0, 0, 0, 0]));
+    let overview = Overview::of(cases(seed, [of_one, 0, of_two, 0, 0, 0, 0, 0, 0, 0, 0]));
     let (of_counts, of_chains) = (overview.fewest_of_counts(), overview.fewest_of_chains());
     expect(of_counts >= OFTEN, "how often each situation of request 8 comes");
     expect(of_chains >= OFTEN, "how often each situation of request 6 comes");

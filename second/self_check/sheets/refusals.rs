@@ -1,6 +1,7 @@
 // Each refusal worked out by hand, with its place, and before those of all later checks.
 
 use super::super::expect;
+use super::super::orders::{self_orders, Fault, Refusal};
 use super::super::roles::{NO_PRIVILEGE, REFUSED_TABLES};
 use super::super::samples::SAMPLE;
 use crate::sheet::{add_sheets, month_sheet, Sheet};
@@ -9,9 +10,6 @@ use crate::sheet::{add_sheets, month_sheet, Sheet};
 const NUMBER: u32 = 7;
 
 const MOST: u32 = 4_294_967_295;
-
-/// A number and a place.
-type Refusal = [usize; 2];
 
 fn refused([number, place]: Refusal) -> Result<Sheet, Sheet> {
     Err(Sheet { number, place, ..Sheet::default() })
@@ -83,9 +81,6 @@ impl Sum {
     }
 }
 
-/// A fault of each rank, and what it is refused with where it is the first.
-type Fault<C> = (fn(&mut C), Refusal);
-
 const OF_MONTHS: [Fault<Month>; 3] = [
     (|month| month.words[14] = 5, [3, 2]),
     (|month| month.marks.truncate(21), [10, 0]),
@@ -101,26 +96,6 @@ const OF_SUMS: [Fault<Sum>; 7] = [
     (|sum| *sum = sum.clone().with_counts(&[7, 9]), [30, 2]),
     (|sum| *sum = sum.clone().with_figures(&[3]), [30, 11]),
 ];
-
-/// Each fault with every choice of later ones; gives how many there are. The last fault comes first: a count is bent before its run gets
-/// shorter.
-fn self_orders<C>(sound: fn() -> C, faults: &[Fault<C>], is_refused: fn(&C, Refusal, &str)) -> usize {
-    let mut count = 0;
-    for (first, (_, refusal)) in faults.iter().enumerate() {
-        let later = faults.len() - 1 - first;
-        for chosen in 0..1 << later {
-            let mut call = sound();
-            for rank in (first..faults.len()).rev() {
-                if rank == first || chosen >> (rank - first - 1) & 1 == 1 {
-                    (faults[rank].0)(&mut call);
-                }
-            }
-            is_refused(&call, *refusal, "the first of several faults");
-            count += 1;
-        }
-    }
-    count
-}
 
 fn self_tables() {
     for (at, word, refusal) in REFUSED_TABLES {
