@@ -2,12 +2,14 @@
 ghost use Prim.Native.Nat.{_≤_};
 ghost use lib.ListN.{length};
 
+mod edits;
 mod listings;
 
 use adding::add_sheets;
 use carry::carry_marks;
 use completion::complete;
 use dtd::read_dtd;
+use edits::run_edits;
 use listings::run_read;
 use listings::run_write;
 use maps::complete_maps;
@@ -44,7 +46,7 @@ fn put_byte(byte: u8) {
 }
 
 // A run, two hexadecimal digits a byte.
-fn put_run(run: &[u8]) {
+pub(crate) fn put_run(run: &[u8]) {
     io::write_all(1, b" ");
     let mut k = 0;
     while k < run.len() {
@@ -59,7 +61,7 @@ fn put_chain(length: usize, chain: [u8; 17]) {
     put_run(&chain);
 }
 
-fn put_answer(case: usize, call: &[u8], answer: Answer) {
+pub(crate) fn put_answer(case: usize, call: &[u8], answer: Answer) {
     io::print_decimal(1, case as u64);
     io::write_all(1, call);
     put(answer.number as usize);
@@ -84,7 +86,7 @@ fn put_word(word: u16) {
 }
 
 // A run of words, four hexadecimal digits a word.
-fn put_words(run: &[u16]) {
+pub(crate) fn put_words(run: &[u16]) {
     io::write_all(1, b" ");
     let mut k = 0;
     while k < run.len() {
@@ -537,6 +539,7 @@ fn run_case(case: usize) -> bool {
         6 => run_sum(case),
         7 => run_write(case),
         8 => run_read(case),
+        9 => run_edits(case),
         _ => return false,
     }
     true
