@@ -22,7 +22,7 @@ use Rattle.broken.specs.Breaks.{Breaks}
 module _ {ws marks : List ℕ} where
   -- what is broken, by its condition
   breaks-as : {c : Condition} (b : Breaks ws c marks) → BreachOf ws marks (ForbiddenBelow ws marks) c (b .spot) (b .privilege)
-  breaks-as {c} b = broken-as ws marks (b .spot) (b .privilege) (b .breach) c (b .of)
+  breaks-as {c} b = broken-as ws marks (ForbiddenBelow ws marks) (b .spot) (b .privilege) (b .breach) c (b .of)
 
   -- a clean policy breaks no condition
   pub clean-unbroken : Clean ws marks → (c : Condition) → ¬ Breaks ws c marks
