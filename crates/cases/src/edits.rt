@@ -8,6 +8,11 @@ use stream::read_bytes;
 use stream::read_numbers;
 use stream::read_words;
 
+// The privilege of an edit, a 32-bit number.
+fn privilege_of(number: u32) -> usize {
+    number as usize
+}
+
 // The mark of an edit, a 32-bit number. None is over 255.
 fn mark_of(number: u32) -> u8 {
     (number % 256) as u8
@@ -33,7 +38,7 @@ fn put_edit(
 fn put_edits(case: usize, words: &[u16], marks: &mut [u8], kept: &mut [u16], edits: &[u32]) {
     let mut k = 0;
     while k + 1 < edits.len() {
-        let privilege = edits[k] as usize;
+        let privilege = privilege_of(edits[k]);
         let mark = mark_of(edits[k + 1]);
         put_edit(case, words, marks, kept, privilege, mark);
         k += 2;
