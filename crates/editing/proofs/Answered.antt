@@ -4,7 +4,7 @@ use mathlib.Core.Path.{_≡_, refl, sym, ap, _∙_}
 use mathlib.Core.Logic.{_≢_, _⊎_, inl, inr}
 use mathlib.Core.List.{List}
 use native.Mathlib.Omega.{arith}
-use lib.ListN.{length, getD}
+use lib.ListN.{getD}
 use lib.Seq.{ext-getD}
 use Rattle.table.specs.Words.{types}
 use Rattle.table.proofs.Lists.{le-or-lt}
@@ -15,8 +15,8 @@ use Rattle.verdict.specs.declared.Answer.{Answer}
 use Rattle.verdict.specs.declared.below.Tally.{Tally}
 use Rattle.verdict.proofs.Judged.{refusal-one}
 use Rattle.verdict.proofs.Tallies.{below-one}
-use Rattle.editing.specs.Entries.{entryOf, Renewed}
-use Rattle.editing.specs.Kept.{KeptVerdict}
+use Rattle.verdict.specs.Kept.{entryOf}
+use Rattle.editing.specs.Entries.{Renewed}
 use Rattle.editing.specs.Answer.{IsEdit, NoEdit, no-policy, no-privilege, no-mark, short, EditAnswer, refused, edited}
 use Rattle.editing.specs.steps.Checking.{EditChecked, fits}
 use Rattle.editing.specs.steps.Checking as checking

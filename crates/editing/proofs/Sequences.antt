@@ -19,7 +19,8 @@ use Rattle.verdict.specs.Below.{PrivilegeBelow, ForbiddenTally}
 use Rattle.verdict.specs.Answers.{JudgeAnswer, judged}
 use Rattle.verdict.specs.declared.Answer.{Answer}
 use Rattle.verdict.specs.declared.below.Tally.{Tally}
-use Rattle.editing.specs.Entries.{entryOf, Entries}
+use Rattle.verdict.specs.Kept.{entryOf}
+use Rattle.editing.specs.Entries.{Entries}
 use Rattle.editing.specs.Answer.{IsEdit, EditAnswer, refused, edited}
 use Rattle.editing.specs.Clicks.{Click, Clicked, none, then}
 use Rattle.editing.proofs.Answered.{no-edit-number}

@@ -1,13 +1,12 @@
 -- The verdict by what is kept: there is one, and where the entries are those of the marks it is the verdict on the marks. Assumes nothing.
-use Prim.Native.Nat.{ℕ, _≤_, _<_}
+use Prim.Native.Nat.{ℕ, _<_}
 use mathlib.Core.Path.{_≡_, refl, sym, ap, subst, subst⁻¹, _∙_}
-use mathlib.Core.Logic.{_≢_, inl, inr}
 use mathlib.Core.List.{List}
 use native.Mathlib.Omega.{arith}
 use Rattle.table.specs.Words.{types}
 use Rattle.table.specs.Rule.{childAt}
 use Rattle.table.specs.HowMany.{Tallied, some, nothing}
-use Rattle.table.specs.Privilege.{privileges, exchangeOf, replaceOf}
+use Rattle.table.specs.Privilege.{privileges}
 use Rattle.table.proofs.Facts.{facts}
 use Rattle.table.proofs.HowMany.{none-many, tallied-many}
 use Rattle.table.proofs.Privileges.{belongs-below}
@@ -15,105 +14,21 @@ use Rattle.policy.specs.Marks.{Policy}
 use Rattle.policy.specs.Renewed.{Barred}
 use Rattle.policy.proofs.Reaches.{reached-from}
 use Rattle.verdict.specs.Below.{ForbiddenBelow, ForbiddenTally}
-use Rattle.verdict.specs.Breaches.{spotOf, chainIn, at-exchange, at-below, InsertDeleteBreach, ChainBreach, CycleBreach, BreachOf, BreachBy, IsBreach}
+use Rattle.verdict.specs.Breaches.{spotOf, at-exchange, at-below, InsertDeleteBreach, ChainBreach, CycleBreach, BreachOf, BreachBy, IsBreach}
 use Rattle.verdict.specs.Breaches.{FirstSpot, StarBroken, FirstBreach, Verdict, PassesOn, star, replace, chain, cycle, conditionNumber}
 use Rattle.verdict.specs.Breaches as verdict
-use Rattle.verdict.specs.steps.Spoils.{Flag, up, down, Agree}
-use Rattle.verdict.specs.steps.Visits.{Searched}
-use Rattle.verdict.specs.steps.Visits as visit
-use Rattle.verdict.specs.steps.Breakers.{BreakerAt, BreachWith}
-use Rattle.verdict.specs.steps.Breakers as breaker
+use Rattle.verdict.specs.steps.Spoils.{Agree}
 use Rattle.verdict.specs.declared.Breach.{Breach}
 use Rattle.verdict.specs.declared.Spot.{Spot}
 use Rattle.verdict.specs.declared.Condition.{Condition}
 use Rattle.verdict.specs.declared.Condition.the-variants.{None, InsertDelete, Chain, Cycle}
 use Rattle.verdict.specs.declared.below.Tally.{Tally}
-use Rattle.verdict.specs.declared.breaches.Breaker.{Breaker}
-use Rattle.verdict.specs.declared.breaches.Breaker.the-variants.{Own, Below}
-use Rattle.verdict.proofs.Firsts.{breach-one, chain-at-one, spot-one, broken-some, none-clean}
+use Rattle.verdict.proofs.Firsts.{breach-one, chain-at-one, spot-one, none-clean}
 use Rattle.verdict.proofs.Flagged.{breach-as, spot-as}
-use Rattle.verdict.proofs.Breakers.{breaker-type, barred-tally, below-tally, star-renewed, star-tally, chain-tally, cycle-tally, tally-first}
-use Rattle.editing.specs.Entries.{entryOf, Entries}
-use Rattle.editing.specs.Kept.{KeptBelow, KeptTally, KeptBreach, KeptVerdict, clean, broken}
-use Rattle.editing.specs.steps.Reading.{FlagOf, none, LowChild, TallyBy}
-use Rattle.editing.specs.steps.Reading as reading
-
--- a flag tells whether there is something by what is kept
-pub kept-flag : (kept : List ℕ) (t : ℕ) {r : ℕ} → FlagOf (entryOf kept t .count) r → Flag (KeptBelow kept t) r
-kept-flag kept t (none e f) = down (λ p h. h .some e) f
-kept-flag kept t (reading.some d f) = up (entryOf kept t .lowest) (record { some = d; lowest = refl }) f
-
--- what breaks a spot, with what is kept of it, makes the breach
-module _ (ws marks kept : List ℕ) (b : Breach) (f : FirstSpot (BreachBy ws marks (KeptBelow kept)) (spotOf b)) where
-  abbrev K : ℕ → ℕ → Type 0
-  K = KeptBelow kept
-
-  module _ {k : Condition} (e : b .condition ≡ k) where
-    out : BreachOf ws marks K k (spotOf b) (f .broken .0)
-    out = subst (λ (c : Condition). BreachOf ws marks K c (spotOf b) (f .broken .0)) e (f .broken .1)
-
-    into : (p : ℕ) → BreachOf ws marks K k (spotOf b) p → BreachBy ws marks K (spotOf b) p
-    into p h = subst⁻¹ (λ (c : Condition). BreachOf ws marks K c (spotOf b) p) e h
-
-  -- the numbers of the breach are those that are kept of type y
-  abbrev Are : ℕ → Type 0
-  Are y = (b .privilege ≡ entryOf kept y .lowest) × (b .forbidden ≡ entryOf kept y .count)
-
-  told : (y : ℕ) → Are y → KeptTally kept y (record { lowest = b .privilege; count = b .forbidden })
-  told y n = λ d. record { lowest = n .0 d; count = n .1 d }
-
-  module _ (e : b .condition ≡ InsertDelete) where
-    star-here : InsertDeleteBreach ws marks K (spotOf b) (f .broken .0) → {p : ℕ} → StarBroken ws marks K (b .element) p → InsertDeleteBreach ws marks K (spotOf b) p
-    star-here h s = record { star = h .star; zero-i = h .zero-i; zero-j = h .zero-j; broken = s }
-
-    by-exchange : Barred ws marks (b .element) → b .privilege ≡ exchangeOf ws (b .element) → BreachBy ws marks K (spotOf b) (b .privilege)
-    by-exchange c is = into e (b .privilege) (star-here (out e) (at-exchange c is))
-
-    by-child : ¬ Barred ws marks (b .element) → Are (childAt ws (b .element) 0) → BreachBy ws marks K (spotOf b) (b .privilege)
-    by-child d n = into e (b .privilege) (star-here (out e) (go (out e .broken)))
-      where
-        go : StarBroken ws marks K (b .element) (f .broken .0) → StarBroken ws marks K (b .element) (b .privilege)
-        go (at-exchange c is) = absurd (d c)
-        go (at-below a r w) = at-below a r (record { some = w .some; lowest = n .0 })
-
-  by-replacement : b .condition ≡ Chain → b .privilege ≡ replaceOf ws (b .element) (b .i) (b .j) → BreachBy ws marks K (spotOf b) (b .privilege)
-  by-replacement e is = let h : ChainBreach ws marks (spotOf b) (f .broken .0) = out e in into e (b .privilege) (rw (h .is ∙ sym is) at h)
-
-  by-cycle : b .condition ≡ Cycle → Are (childAt ws (b .element) (b .i)) → BreachBy ws marks K (spotOf b) (b .privilege)
-  by-cycle e n =
-      let h : CycleBreach ws marks K (spotOf b) (f .broken .0) = out e in
-      into e (b .privilege) (record { choice = h .choice; same = h .same; reached = h .reached; below = record { some = h .below .some; lowest = n .0 } })
-
-  module _ {t : Tally} (l : b .privilege ≡ t .lowest) (c : b .forbidden ≡ t .count) where
-    are : {y z : ℕ} → t ≡ entryOf kept y → y ≡ z → Are z
-    are {y} e g = let here : Are y = (l ∙ ap (λ (r : Tally). r .lowest) e, c ∙ ap (λ (r : Tally). r .count) e) in rw g at here
-
-    alone : {p : ℕ} → t ≡ record { lowest = p; count = 1 } → (b .privilege ≡ p) × (b .forbidden ≡ 1)
-    alone e = (l ∙ ap (λ (r : Tally). r .lowest) e, c ∙ ap (λ (r : Tally). r .count) e)
-
-    pub made : {r : Breaker} → BreakerAt ws marks (spotOf b) r → TallyBy kept r t → BreachBy ws marks K (spotOf b) (b .privilege) × PassesOn ws marks (KeptTally kept) b
-    made (breaker.exchange e d is) g = let a = alone g in (by-exchange e d (a .0 ∙ is), replace e d (a .0 ∙ is) (a .1))
-    made (breaker.replacement e is) g = let a = alone g in (by-replacement e (a .0 ∙ is), chain e (a .1))
-    made (breaker.star e d i is) g = let a = are g is in (by-child e d a, star e d (told _ a))
-    made (breaker.cycle e i is) g = let a = are g is in (by-cycle e a, cycle e (told _ a))
-
--- a search that finds no spot has shown that there is none
-pub searched-none : (ws marks kept : List ℕ) {s : Spot} → Searched (BreachBy ws marks (KeptBelow kept)) s → s .condition ≡ None → (t : Spot) (p : ℕ)
-    → ¬ BreachBy ws marks (KeptBelow kept) t p
-searched-none ws marks kept (visit.none e n) k = n
-searched-none ws marks kept {s} (visit.first f) k = absurd (broken-some ws marks (KeptBelow kept) s (f .broken .0) (f .broken .1) k)
-
--- a child that is asked for has a number below 256
-pub low-child : (ws marks : List ℕ) (s : Spot) → types ws ≤ 256 → (r : Breaker) → BreakerAt ws marks s r → LowChild r
-low-child ws marks s few (Own p) d = refl
-low-child ws marks s few (Below y) d = omega (arith, breaker-type ws marks d)
-
-pub kept-broken : (ws marks kept : List ℕ) (s : Spot) {r : Breaker} {t : Tally} {b : Breach} → FirstSpot (BreachBy ws marks (KeptBelow kept)) s → BreakerAt ws marks s r
-    → TallyBy kept r t → BreachWith ws marks s t b → KeptBreach ws marks kept b
-kept-broken ws marks kept s {r} {t} {b} f d g w =
-    let here : FirstSpot (BreachBy ws marks (KeptBelow kept)) (spotOf b) = rw (w .at) f in
-    let m = made ws marks kept b here (w .privilege) (w .forbidden) {r = r} (rw (w .at) d) g in
-    record { spot = here; breach = m .0; count = m .1; chain = rw (w .at) (w .chain) }
+use Rattle.verdict.proofs.Breakers.{barred-tally, below-tally, star-renewed, star-tally, chain-tally, cycle-tally, tally-first}
+use Rattle.verdict.specs.Kept.{entryOf}
+use Rattle.editing.specs.Entries.{Entries}
+use Rattle.verdict.specs.Kept.{KeptBelow, KeptTally, KeptBreach, KeptVerdict, clean, broken}
 
 -- there is one verdict by what is kept
 module _ (ws marks kept : List ℕ) where

@@ -31,7 +31,8 @@ use Rattle.verdict.specs.Below.{PrivilegeBelow, ForbiddenBelow, ForbiddenTally}
 use Rattle.verdict.specs.steps.Tallies.{Added}
 use Rattle.verdict.specs.declared.below.Tally.{Tally}
 use Rattle.verdict.proofs.Tallies.{tallied-added}
-use Rattle.editing.specs.Entries.{entryOf, Renewed}
+use Rattle.verdict.specs.Kept.{entryOf}
+use Rattle.editing.specs.Entries.{Renewed}
 use Rattle.editing.specs.declared.growing.Grown.{Grown}
 use Rattle.editing.specs.steps.Aboves.{Aboves, StandsAt}
 use Rattle.editing.specs.steps.Growing.{noGrown, Reach, Within, Whole}

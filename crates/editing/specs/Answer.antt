@@ -11,7 +11,7 @@ use Rattle.verdict.specs.Answers.{refusal, verdictOf}
 use Rattle.verdict.specs.declared.Answer.{Answer}
 use Rattle.verdict.specs.declared.Breach.{Breach}
 use Rattle.editing.specs.Entries.{Renewed}
-use Rattle.editing.specs.Kept.{KeptVerdict}
+use Rattle.verdict.specs.Kept.{KeptVerdict}
 
 -- privilege p of a policy can get this mark, and n words hold the entries
 pub record IsEdit (ws marks : List ℕ) (n p mark : ℕ) : Type 0 where

@@ -1,16 +1,12 @@
 -- "Keep for each type t what order 8's question answers, as 16-bit words 2t and 2t + 1. A call writes one mark, and only entries of types that its
 -- privilege is below" (document 02, order 11). Assumes nothing.
-use Prim.Native.Nat.{ℕ, _+_, _*_, _≤_, _<_}
+use Prim.Native.Nat.{ℕ, _*_, _≤_, _<_}
 use mathlib.Core.Path.{_≡_}
 use mathlib.Core.List.{List}
 use lib.ListN.{length, getD}
 use Rattle.table.specs.Words.{types}
 use Rattle.verdict.specs.Below.{PrivilegeBelow, ForbiddenTally}
-use Rattle.verdict.specs.declared.below.Tally.{Tally}
-
--- the entry of type t: the lowest forbidden privilege below it, and how many there are
-abbrev pub entryOf : List ℕ → ℕ → Tally
-entryOf kept t = record { lowest = getD kept (2 * t) 0; count = getD kept (2 * t + 1) 0 }
+use Rattle.verdict.specs.Kept.{entryOf}
 
 -- the entries are those of the marks: each is what the question answers
 pub record Entries (ws marks kept : List ℕ) : Type 0 where

@@ -3,4 +3,3 @@ pub mod Checking
 pub mod Aboves
 pub mod Growing
 pub mod Writing
-pub mod Reading

@@ -1,10 +1,8 @@
 // The entries of the types that a privilege is below, worked out from the marks along the order of the types. Contracts cite specs/Entries, and
 // specs/steps/Writing for the parts.
-ghost use mathlib.Core.Path.{_≡_};
-ghost use Prim.Native.Nat.{ℕ, _+_, _-_, _*_, _≤_, _<_};
-ghost use lib.ListN.{length, getD, replicate};
+ghost use Prim.Native.Nat.{_+_, _-_, _*_, _≤_, _<_};
+ghost use lib.ListN.{length, replicate};
 ghost use Rattle.table.specs.Words.{types, root};
-ghost use Rattle.table.specs.HowMany.{Tallied};
 ghost use Rattle.table.specs.Privilege.{privileges};
 ghost use Rattle.table.specs.steps.Found.{Tells};
 ghost use Rattle.table.specs.steps.Order.{BottomUp};
@@ -13,7 +11,6 @@ ghost use Rattle.table.specs.steps.Numbering.{Firsts};
 ghost use Rattle.policy.specs.Marks.{Policy};
 ghost use Rattle.verdict.specs.Below.{ForbiddenTally};
 ghost use Rattle.editing.specs.Entries.{Renewed};
-ghost use Rattle.editing.specs.steps.Aboves.{Aboves, StandsAt};
 ghost use Rattle.editing.specs.steps.Writing.{Entered, Blank, Written};
 use super::above::flag_above;
 use super::above::place_of;

@@ -1,9 +1,8 @@
 // What is forbidden below a type, grown from what is forbidden below one of its children: only what comes new is walked and counted. Contracts cite
 // specs/steps/Growing.
 ghost use mathlib.Core.Path.{_≡_};
-ghost use mathlib.Core.Logic.{_≢_};
 ghost use Prim.Native.Nat.{_≤_, _<_};
-ghost use lib.ListN.{length, getD, replicate};
+ghost use lib.ListN.{replicate};
 ghost use Rattle.table.specs.Words.{types};
 ghost use Rattle.table.specs.HowMany.{Tallied};
 ghost use Rattle.table.specs.Privilege.{privileges};

@@ -1,5 +1,5 @@
 // One mark edited without a rescan: the store keeps for each type what is forbidden below it, and a call writes one mark, the entries of the types that
-// its privilege is below, and nothing else. Contracts cite specs/Answer, specs/Entries and specs/Kept; specs/steps for the parts.
+// its privilege is below, and nothing else. Contracts cite specs/Answer and specs/Entries; specs/steps for the parts.
 ghost use mathlib.Core.Path.{_≡_};
 ghost use lib.ListN.{length};
 ghost use Rattle.editing.specs.Answer.{EditAnswer};
@@ -8,14 +8,13 @@ ghost use Rattle.editing.specs.steps.Checking.{OrderedEdit};
 mod above;
 mod entries;
 mod growing;
-mod kept;
 
 use entries::renew_entries;
-use kept::kept_breach;
 use policy::marks::check_policy;
 use table::Checked;
 use table::words::types;
 use verdict::Answer;
+use verdict::breaches::breach_by;
 use verdict::refused;
 
 // Checks a table, marks and an edit of one, for which there are n words of entries: 0, or the first of 1 to 12 and 19 with its place. With 0 the order
@@ -77,7 +76,7 @@ pub fn edit_mark(
     }
     marks[privilege] = mark;
     renew_entries(words, marks, &order, privilege, kept);
-    let first = kept_breach(words, marks, kept);
+    let first = breach_by(words, marks, &order, kept);
     Answer {
         number: 0,
         place: 0,

@@ -13,3 +13,4 @@ pub mod Judged
 pub mod Boxes
 pub mod PolicyTests
 pub mod PolicySamples
+pub mod Readings

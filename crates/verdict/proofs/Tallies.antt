@@ -1,6 +1,6 @@
 -- Counting what is forbidden, stretch by stretch. Assumes nothing.
-use Prim.Native.Nat.{ℕ, _+_, _-_, _≤_, _<_}
-use mathlib.Core.Path.{_≡_, refl, sym, subst, _∙_}
+use Prim.Native.Nat.{ℕ, _+_, _≤_, _<_}
+use mathlib.Core.Path.{_≡_, refl}
 use mathlib.Core.Logic.{inl, inr}
 use mathlib.Core.List.{List, [], _∷_}
 use mathlib.Core.Bool.{Bool, true, false}
@@ -8,8 +8,7 @@ use native.Mathlib.Nat.{zero-add, add-zero}
 use native.Mathlib.Omega.{arith}
 use borrow.Author.Tests.{eqb-true}
 use lib.Dec.{eqb}
-use lib.ListN.{length, getD, take, drop, length-drop}
-use lib.Seq.{getD-take, getD-drop, length-take-le}
+use lib.ListN.{getD}
 use Rattle.table.specs.Words.{types}
 use Rattle.table.specs.Below.{Below}
 use Rattle.table.specs.HowMany.{HowMany, Tallied, some, nothing}
@@ -19,9 +18,8 @@ use Rattle.table.specs.steps.Found.{Tells}
 use Rattle.table.specs.steps.Flags.{BelowOne, MarksBelow}
 use Rattle.table.proofs.Lists.{le-or-lt}
 use Rattle.table.proofs.Lowest.{told-yes}
-use Rattle.table.proofs.HowMany.{many-none, none-many, many-as, many-join, many-behind, tallied-many, tallied-one, tallied-as}
+use Rattle.table.proofs.HowMany.{many-none, none-many, many-as, many-join, tallied-many, tallied-one, tallied-as}
 use Rattle.table.proofs.Privileges.{first-next, belongs-one}
-use Rattle.policy.specs.Marks.{Forbidden}
 use Rattle.verdict.specs.Below.{ForbiddenBelow, ForbiddenTally}
 use Rattle.verdict.specs.steps.Spoils.{Range}
 use Rattle.verdict.specs.steps.Tallies.{Counted, Added, none, first, more, ForbiddenAmong}
@@ -30,19 +28,6 @@ use Rattle.verdict.specs.declared.below.Tally.{Tally}
 -- a stretch is counted from its first number on
 pub range-start : {marks : List ℕ} {from until : ℕ} → HowMany (Range marks from until) from 0
 range-start {from = from} = many-none from (λ q l r. omega (arith, r .low))
-
--- a part of it is counted by itself, and joined to what was counted before
-pub range-more : {marks : List ℕ} {from until p end c k : ℕ} → from ≤ p → p ≤ end → end ≤ until → until ≤ length marks → HowMany (Range marks from until) p c
-    → HowMany (Forbidden (take (end - p) (drop p marks))) (length (take (end - p) (drop p marks))) k → HowMany (Range marks from until) end (c + k)
-range-more {marks} {from} {until} {p} {end} {c} {k} low most inside fit h m =
-    subst (λ (n : ℕ). HowMany (Range marks from until) n (c + k)) (omega (arith, size)) (many-behind p (λ q l r. read q l ∙ r .forbidden)
-    (λ q l f. record { low = omega arith; high = omega (arith, size); forbidden = sym (read q l) ∙ f }) h m)
-  where
-    size : length (take (end - p) (drop p marks)) ≡ end - p
-    size = length-take-le (end - p) (drop p marks) (omega (arith, length-drop p marks))
-
-    read : (q : ℕ) → q < length (take (end - p) (drop p marks)) → getD (take (end - p) (drop p marks)) q 0 ≡ getD marks (p + q) 0
-    read q l = getD-take (end - p) (drop p marks) q 0 (omega (arith, size)) ∙ getD-drop p marks q 0
 
 -- a stretch is added: of its numbers those that are counted have P
 module _ {P : ℕ → Type 0} {marks : List ℕ} {from until flag : ℕ} {before : Tally} (l : from ≤ until)

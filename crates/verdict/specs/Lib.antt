@@ -5,4 +5,5 @@ pub mod Forces
 pub mod Carried
 pub mod Breaches
 pub mod Answers
+pub mod Kept
 pub mod steps

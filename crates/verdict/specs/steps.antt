@@ -3,3 +3,4 @@ pub mod Spoils
 pub mod Tallies
 pub mod Visits
 pub mod Breakers
+pub mod Reading

@@ -19,34 +19,20 @@ pub struct Tally {
     pub count: usize,
 }
 
-// How many marks of a short run are forbidden. Counted in a byte, sixteen at a time.
-fn count_few(marks: &[u8]) -> u8
-    requires { ⌜ length (now marks) ≤ 128 ⌝ }
-    ensures { λ r. ⌜ HowMany (Forbidden (now (marks .entry))) (length (now (marks .entry))) r ⌝ }
+// How many privileges from one number up to another are forbidden. Counted in 16 bits, eight at a time.
+fn count_forbidden(marks: &[u8], from: usize, until: usize) -> usize
+    requires { ⌜ (from ≤ until) × (until ≤ length (now marks)) × (until ≤ 4096) ⌝ }
+    ensures { λ r. ⌜ HowMany (Range (now (marks .entry)) from until) until r ⌝ }
 {
-    let mut count = 0u8;
-    let mut p = 0;
-    while p < marks.len() {
+    let mut count = 0u16;
+    let mut p = from;
+    while p < until {
         if marks[p] == 2 {
             count += 1;
         }
         p += 1;
     }
-    count
-}
-
-// How many privileges from one number up to another are forbidden, 128 at a time.
-fn count_forbidden(marks: &[u8], from: usize, until: usize) -> usize
-    requires { ⌜ (from ≤ until) × (until ≤ length (now marks)) × (until ≤ 4096) ⌝ }
-    ensures { λ r. ⌜ HowMany (Range (now (marks .entry)) from until) until r ⌝ }
-{
-    let mut count = 0;
-    let mut p = from;
-    while p + 128 <= until {
-        count += count_few(&marks[p..p + 128]) as usize;
-        p += 128;
-    }
-    count + count_few(&marks[p..until]) as usize
+    count as usize
 }
 
 // The lowest forbidden privilege from a number on, where there is one.
@@ -67,9 +53,6 @@ pub fn add_stretch(marks: &[u8], from: usize, until: usize, flag: u8, before: Ta
     ensures { λ r. ⌜ Added (now (marks .entry)) from until flag before r ⌝ }
 {
     if flag != 1 {
-        return before;
-    }
-    if from == until {
         return before;
     }
     let more = count_forbidden(marks, from, until);

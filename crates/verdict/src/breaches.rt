@@ -2,12 +2,11 @@
 // breaks it there and its chain are asked once it is found. Contracts cite specs/Breaches, and specs/steps/Visits and specs/steps/Spoils for the parts.
 ghost use mathlib.Core.Path.{_≡_};
 ghost use mathlib.Core.Bool.{true};
-ghost use Prim.Native.Nat.{ℕ, _<_};
+ghost use Prim.Native.Nat.{_<_};
 ghost use lib.ListN.{length, getD};
 ghost use Rattle.table.specs.Words.{types};
 ghost use Rattle.table.specs.Rule.{IsChoice, IsStar, countOf};
-ghost use Rattle.table.specs.HowMany.{Tallied};
-ghost use Rattle.table.specs.Privilege.{firstPrivilege, privileges};
+ghost use Rattle.table.specs.Privilege.{firstPrivilege};
 ghost use Rattle.table.specs.steps.Numbering.{NumberedAs, Small};
 ghost use Rattle.table.specs.steps.Found.{Tells};
 ghost use Rattle.table.specs.steps.Order.{BottomUp};
@@ -15,15 +14,18 @@ ghost use Rattle.policy.specs.Marks.{Allowed, Policy};
 ghost use Rattle.policy.specs.Reached.{Reached};
 ghost use Rattle.policy.specs.Renewed.{Renewed, Barred};
 ghost use Rattle.policy.specs.steps.Squares.{marked, Square, ForbiddenIn};
-ghost use Rattle.verdict.specs.Breaches.{noBreach, BreachBy, IsBreach, FirstSpot, ChainAt, FirstBreach, Verdict};
+ghost use Rattle.verdict.specs.Breaches.{noBreach, BreachBy, ChainAt, Verdict};
 ghost use Rattle.verdict.specs.steps.Spoils.{Flagged};
 ghost use Rattle.verdict.specs.steps.Breakers.{Breakable, BreakerAt, BreachWith};
+ghost use Rattle.verdict.specs.steps.Reading.{Lent, FlagsBy, AskedOf, ChildIn, TallyBy, FirstBy, BrokenBy, VerdictBy};
 ghost use Rattle.verdict.specs.steps.Visits.{noSpot, starSpot, Visited, Broken, FirstPair, Searched, BreachAt, CycleAt};
 use super::Breach;
 use super::Condition;
 use super::Spot;
 use super::below::Tally;
 use super::below::forbidden_below;
+use super::kept::entry_at;
+use super::kept::flag_kept;
 use super::spoilt::flag_spoilt;
 use chain::Chain;
 use chain::chain_between;
@@ -289,7 +291,7 @@ fn breach_at(words: &[u16], marks: &[u8], flags: &[u8; 256], x: usize, first: us
 }
 
 // Where the first breach of a policy by the flags is.
-pub fn first_spot(words: &[u16], marks: &[u8], flags: &[u8; 256]) -> Spot
+fn first_spot(words: &[u16], marks: &[u8], flags: &[u8; 256]) -> Spot
     requires { ⌜ Policy (now words) (now marks) ⌝ }
     ensures { λ r. ⌜ Searched (BreachBy (now (words .entry)) (now (marks .entry)) (Flagged (now (flags .entry)))) r ⌝ }
 {
@@ -323,7 +325,7 @@ fn star_breaker(words: &[u16], marks: &[u8], x: usize, n: Numbering) -> Breaker
 }
 
 // What breaks a spot, by the numbering of its type.
-pub fn breaker_at(words: &[u16], marks: &[u8], spot: Spot, n: Numbering) -> Breaker
+fn breaker_at(words: &[u16], marks: &[u8], spot: Spot, n: Numbering) -> Breaker
     requires { ⌜ Policy (now words) (now marks) × NumberedAs (now words) (spot .element) n × Breakable (now words) (now marks) spot ⌝ }
     ensures { λ r. ⌜ BreakerAt (now (words .entry)) (now (marks .entry)) spot r ⌝ }
 {
@@ -337,17 +339,28 @@ pub fn breaker_at(words: &[u16], marks: &[u8], spot: Spot, n: Numbering) -> Brea
     }
 }
 
-// The lowest privilege that breaks a spot and how many there are, worked out from the marks.
-fn tally_by(words: &[u16], marks: &[u8], spot: Spot, breaker: Breaker) -> Tally
-    requires { ⌜ Policy (now words) (now marks) × BreakerAt (now words) (now marks) spot breaker × ((p : ℕ) × IsBreach (now words) (now marks) spot p) ⌝ }
-    ensures { λ r. ⌜ Tallied (IsBreach (now (words .entry)) (now (marks .entry)) spot) (privileges (now (words .entry))) (r .lowest) (r .count) ⌝ }
+// What is forbidden below type y, or what is kept of it where entries are lent.
+fn asked_of(words: &[u16], marks: &[u8], kept: &[u16], y: usize) -> Tally
+    requires { ⌜ Policy (now words) (now marks) × (y < types (now words)) ⌝ }
+    ensures { λ r. ⌜ AskedOf (now (words .entry)) (now (marks .entry)) (now (kept .entry)) y r ⌝ }
+{
+    if kept.len() == 0 {
+        return forbidden_below(words, marks, y);
+    }
+    entry_at(kept, y)
+}
+
+// The lowest privilege that breaks a spot and how many there are.
+fn tally_by(words: &[u16], marks: &[u8], kept: &[u16], breaker: Breaker) -> Tally
+    requires { ⌜ Policy (now words) (now marks) × ChildIn (now words) breaker ⌝ }
+    ensures { λ r. ⌜ TallyBy (now (words .entry)) (now (marks .entry)) (now (kept .entry)) breaker r ⌝ }
 {
     match breaker {
         Breaker::Own(p) => Tally {
             lowest: p,
             count: 1,
         },
-        Breaker::Below(y) => forbidden_below(words, marks, y),
+        Breaker::Below(y) => asked_of(words, marks, kept, y),
     }
 }
 
@@ -368,7 +381,7 @@ fn chain_at(words: &[u16], marks: &[u8], spot: Spot, n: Numbering) -> Chain
 }
 
 // The breach at a spot, by the numbering of its type and by what was told of what breaks it.
-pub fn breach_with(words: &[u16], marks: &[u8], spot: Spot, n: Numbering, told: Tally) -> Breach
+fn breach_with(words: &[u16], marks: &[u8], spot: Spot, n: Numbering, told: Tally) -> Breach
     requires { ⌜ Policy (now words) (now marks) × NumberedAs (now words) (spot .element) n × Breakable (now words) (now marks) spot ⌝ }
     ensures { λ r. ⌜ BreachWith (now (words .entry)) (now (marks .entry)) spot told r ⌝ }
 {
@@ -388,14 +401,42 @@ pub fn breach_with(words: &[u16], marks: &[u8], spot: Spot, n: Numbering, told: 
 }
 
 // The breach at the first spot: what breaks it there, and its chain.
-fn breach_of(words: &[u16], marks: &[u8], spot: Spot) -> Breach
-    requires { ⌜ Policy (now words) (now marks) × FirstSpot (IsBreach (now words) (now marks)) spot ⌝ }
-    ensures { λ r. ⌜ FirstBreach (now (words .entry)) (now (marks .entry)) r ⌝ }
+fn breach_of(words: &[u16], marks: &[u8], kept: &[u16], spot: Spot) -> Breach
+    requires { ⌜ Policy (now words) (now marks) × Breakable (now words) (now marks) spot × FirstBy (now words) (now marks) (now kept) spot ⌝ }
+    ensures { λ r. ⌜ BrokenBy (now (words .entry)) (now (marks .entry)) (now (kept .entry)) r ⌝ }
 {
     let x = spot.element;
     let n = numbers_at(words, x, first_privilege(words, x));
-    let tally = tally_by(words, marks, spot, breaker_at(words, marks, spot, n));
+    let tally = tally_by(words, marks, kept, breaker_at(words, marks, spot, n));
     breach_with(words, marks, spot, n, tally)
+}
+
+// Flags each type below which something is forbidden, or of which something is kept where entries are lent.
+fn flag_by(words: &[u16], marks: &[u8], order: &[u8; 256], kept: &[u16], flags: &mut [u8; 256])
+    requires { ⌜ Policy (now words) (now marks) × BottomUp (now words) (now order) × Lent (now words) (now kept) × (length (now flags) ≡ 256) ⌝ }
+    ensures { λ _. ⌜ FlagsBy (now (words .entry)) (now (marks .entry)) (now (kept .entry)) (now (flags .entry)) (now (flags .exit)) ⌝ }
+{
+    if kept.len() == 0 {
+        flag_spoilt(words, marks, order, flags);
+        return;
+    }
+    flag_kept(words, kept, flags);
+}
+
+// The first breach of a policy, or none: by what is worked out from the marks where no entries are lent, and else by the entries. The order holds each type
+// after its children. One function for both, so that the search is put together once.
+pub fn breach_by(words: &[u16], marks: &[u8], order: &[u8; 256], kept: &[u16]) -> Breach
+    requires { ⌜ Policy (now words) (now marks) × BottomUp (now words) (now order) × Lent (now words) (now kept) ⌝ }
+    ensures { λ r. ⌜ VerdictBy (now (words .entry)) (now (marks .entry)) (now (kept .entry)) r ⌝ }
+{
+    let mut flags = [0u8; 256];
+    flag_by(words, marks, order, kept, &mut flags);
+    let spot = first_spot(words, marks, &flags);
+    let condition = spot.condition;
+    if let Condition::None = condition {
+        return no_breach();
+    }
+    breach_of(words, marks, kept, spot)
 }
 
 // The first breach of a policy, or none where it is clean. The order holds each type after its children.
@@ -403,12 +444,5 @@ pub fn first_breach(words: &[u16], marks: &[u8], order: &[u8; 256]) -> Breach
     requires { ⌜ Policy (now words) (now marks) × BottomUp (now words) (now order) ⌝ }
     ensures { λ r. ⌜ Verdict (now (words .entry)) (now (marks .entry)) r ⌝ }
 {
-    let mut flags = [0u8; 256];
-    flag_spoilt(words, marks, order, &mut flags);
-    let spot = first_spot(words, marks, &flags);
-    let condition = spot.condition;
-    if let Condition::None = condition {
-        return no_breach();
-    }
-    breach_of(words, marks, spot)
+    breach_by(words, marks, order, &words[0..0])
 }

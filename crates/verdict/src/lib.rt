@@ -6,6 +6,7 @@ ghost use Rattle.verdict.specs.Answers.{refusal, done, JudgeAnswer};
 
 pub mod below;
 pub mod breaches;
+mod kept;
 pub mod spoilt;
 
 use policy::marks::check_policy;

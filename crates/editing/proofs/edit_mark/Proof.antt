@@ -4,6 +4,7 @@ use native.Mathlib.Omega.{arith}
 use denote.Ref.{now}
 use mathlib.Core.Path.{refl}
 use lib.ListN.{length}
+use Rattle.table.proofs.Facts.{facts}
 use Rattle.editing.specs.Answer.{IsEdit, refused, edited}
 use Rattle.editing.proofs.Answered.{checked-refused, checked-fits}
 use Rattle.editing.proofs.Sequences.{edit-policy}
@@ -36,11 +37,11 @@ renew-entries-requires c κs =
     let fit = c .before .before .before in
     (edit-policy _ _ _ _ _ (edit fit), fit .before .before .check-edit .ensures .up (fit .if1 .left), edit fit .privilege, edit fit .room)
 
-kept-breach-requires : tie.Need-kept-breach-requires
-kept-breach-requires c κs =
-    let renewed = c .before .before .before .before in
+breach-by-requires : tie.Need-breach-by-requires
+breach-by-requires c κs =
+    let renewed = c .before .before .before .before .before in
     let fit = renewed .before .before .before .before in
-    (edit-policy _ _ _ _ _ (edit fit), omega (arith, edit fit .room, renewed .renew-entries .ensures .size))
+    (edit-policy _ _ _ _ _ (edit fit), fit .before .before .check-edit .ensures .up (fit .if1 .left), λ d. omega (arith, edit fit .room, renewed .renew-entries .ensures .size))
 
 same-length-2 : tie.Need-same-length-2
 same-length-2 c = search needs
@@ -50,8 +51,11 @@ same-length-3 c = search needs
 
 returns-2 : tie.Need-returns-2
 returns-2 c =
-    let renewed = c .before .before .before .before .before in
-    edited (edit (renewed .before .before .before .before)) refl (renewed .renew-entries .ensures) (c .kept-breach .ensures) refl
+    let renewed = c .before .before .before .before .before .before in
+    let fit = renewed .before .before .before .before in
+    edited (edit fit) refl (renewed .renew-entries .ensures)
+    (c .breach-by .ensures .read (λ e. omega (arith, edit fit .room, renewed .renew-entries .ensures .size, facts (edit fit .policy .accepted) .some)))
+    refl
 
 pub edit-mark-spec : {M : Type 1} → statement M
 edit-mark-spec =
@@ -63,7 +67,7 @@ edit-mark-spec =
     returns
     slice-write-marks
     renew-entries-requires
-    kept-breach-requires
+    breach-by-requires
     same-length-2
     same-length-3
     returns-2)

@@ -1,5 +1,5 @@
 -- What is forbidden in some types, counted type by type as they are listed. Assumes nothing.
-use Prim.Native.Nat.{ℕ, _+_, _≤_, _<_, min}
+use Prim.Native.Nat.{ℕ, _+_, _<_, min}
 use mathlib.Core.Path.{_≡_}
 use mathlib.Core.Logic.{_≢_}
 use mathlib.Core.List.{List}
@@ -10,7 +10,6 @@ use Rattle.table.specs.HowMany.{Tallied}
 use Rattle.table.specs.Privilege.{Belongs, privileges}
 use Rattle.table.specs.steps.Flags.{Flags}
 use Rattle.policy.specs.Marks.{Forbidden}
-use Rattle.verdict.specs.Below.{ForbiddenTally}
 use Rattle.verdict.specs.declared.below.Tally.{Tally}
 use Rattle.editing.specs.declared.growing.Grown.{Grown}
 

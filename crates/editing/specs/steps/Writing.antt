@@ -7,7 +7,7 @@ use lib.ListN.{length, getD}
 use Rattle.table.specs.Words.{types}
 use Rattle.verdict.specs.Below.{ForbiddenTally}
 use Rattle.verdict.specs.declared.below.Tally.{Tally}
-use Rattle.editing.specs.Entries.{entryOf}
+use Rattle.verdict.specs.Kept.{entryOf}
 
 -- the entry of type t is r, and all other words are as they were
 pub record Entered (t : ℕ) (r : Tally) (kept after : List ℕ) : Type 0 where

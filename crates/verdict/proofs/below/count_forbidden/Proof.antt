@@ -1,46 +1,31 @@
--- What is counted is joined to what was counted before it. Assumes nothing.
+-- The loop has counted the forbidden privileges passed. Assumes nothing.
 use borrow.Author.Needs.{needs}
+use mathlib.Core.Logic.{⊎-elim}
+use mathlib.Core.Path.{_≡_, subst}
 use native.Mathlib.Omega.{arith}
 use Prim.Native.Nat.{ℕ, _-_, _≤_}
+use denote.Ref.{now}
 use Rattle.table.specs.HowMany.{HowMany}
-use Rattle.table.proofs.HowMany.{many-most}
+use Rattle.table.proofs.HowMany.{many-next, many-skip}
 use Rattle.verdict.specs.steps.Spoils.{Range}
-use Rattle.verdict.proofs.Tallies.{range-start, range-more}
+use Rattle.verdict.proofs.Tallies.{range-start}
 use Rattle.verdict.proofs.below.count_forbidden.Statement.{statement}
 use Rattle.verdict.proofs.below.count_forbidden.Tie as tie
 
 abbrev Inv-loop : tie.InvT-loop
-Inv-loop marks from until count₀ p₀ count p = (from ≤ p) × (p ≤ until) × HowMany (Range marks from until) p count
+Inv-loop marks from until count₀ p₀ count p = (from ≤ p) × (p ≤ until) × (count ≤ p) × HowMany (Range marks from until) p count
 
 abbrev μ-loop : tie.MeasureT-loop
 μ-loop marks from until count₀ p₀ count p = until - p
 
 loop-holds : tie.Need-loop-holds Inv-loop μ-loop
-loop-holds c = (search needs, search needs, range-start)
+loop-holds c = (search needs, search needs, search needs, range-start)
 
-add-loop : tie.Need-add-loop Inv-loop μ-loop
-add-loop c = search needs
-
-add-count-few : tie.Need-add-count-few Inv-loop μ-loop
-add-count-few c = search needs
-
-sub-count-few : tie.Need-sub-count-few Inv-loop μ-loop
-sub-count-few c = search needs
-
-part-count-few-start : tie.Need-part-count-few-start Inv-loop μ-loop
-part-count-few-start c = search needs
-
-part-count-few-end : tie.Need-part-count-few-end Inv-loop μ-loop
-part-count-few-end c = search needs
-
-count-few-requires : tie.Need-count-few-requires Inv-loop μ-loop
-count-few-requires c κs = search needs
-
-cast-count : tie.Need-cast-count Inv-loop μ-loop
-cast-count c = search needs
+shared-slice-read-if1 : tie.Need-shared-slice-read-if1 Inv-loop μ-loop
+shared-slice-read-if1 c = search needs
 
 add-count : tie.Need-add-count Inv-loop μ-loop
-add-count c = let pre = c .before .before .before .before .before .pre in omega (arith, many-most (c .before .before .before .loop .inv .2))
+add-count c = search needs
 
 add-p : tie.Need-add-p Inv-loop μ-loop
 add-p c = search needs
@@ -50,33 +35,21 @@ loop-less c = search needs
 
 loop-again : tie.Need-loop-again Inv-loop μ-loop
 loop-again c =
-    let at = c .before .before .before in
-    let start = at .before .before in
-    (search needs, search needs, range-more (at .loop .inv .0) (omega arith) (search needs) (start .pre .1) (at .loop .inv .2) (c .count-few .ensures))
-
-sub-count-few-2 : tie.Need-sub-count-few-2 Inv-loop μ-loop
-sub-count-few-2 c = search needs
-
-part-count-few-start-2 : tie.Need-part-count-few-start-2 Inv-loop μ-loop
-part-count-few-start-2 c = search needs
-
-part-count-few-end-2 : tie.Need-part-count-few-end-2 Inv-loop μ-loop
-part-count-few-end-2 c = search needs
-
-count-few-requires-2 : tie.Need-count-few-requires-2 Inv-loop μ-loop
-count-few-requires-2 c κs = search needs
+    let at = c .before .before .before .loop in
+    let l = c .before .before .loop-test .taken in
+    ⊎-elim
+    (λ w. (search needs, search needs, omega (arith, w .1, at .inv .2), rw (w .1) (many-next (at .inv .3) (record { low = at .inv .0; high = l; forbidden = w .0 .taken }))))
+    (λ w. (search needs, search needs, omega (arith, w .1, at .inv .2), rw (w .1) (many-skip (at .inv .3) (λ r. w .0 .left (r .forbidden)))))
+    (c .if1 .came)
 
 cast-result : tie.Need-cast-result Inv-loop μ-loop
 cast-result c = search needs
 
-add-result : tie.Need-add-result Inv-loop μ-loop
-add-result c = let pre = c .before .before .before .before .before .pre in omega (arith, many-most (c .before .before .before .loop .inv .2))
-
 returns : tie.Need-returns Inv-loop μ-loop
 returns c =
-    let at = c .before .before .before in
-    let start = at .before .before in
-    range-more (at .loop .inv .0) (at .loop .inv .1) (search needs) (start .pre .1) (at .loop .inv .2) (c .count-few2 .ensures)
+    let at = c .before in
+    let end : at .loop .p ≡ at .before .args .until = omega (arith, at .loop .inv .1, c .loop-test .left) in
+    subst (λ (p : ℕ). HowMany (Range (now (at .before .args .marks)) (at .before .args .from) (at .before .args .until)) p (at .loop .count)) end (at .loop .inv .3)
 
 pub count-forbidden-spec : {M : Type 1} → statement M
 count-forbidden-spec =
@@ -85,21 +58,10 @@ count-forbidden-spec =
     Inv-loop
     μ-loop
     loop-holds
-    add-loop
-    add-count-few
-    sub-count-few
-    part-count-few-start
-    part-count-few-end
-    count-few-requires
-    cast-count
+    shared-slice-read-if1
     add-count
     add-p
     loop-less
     loop-again
-    sub-count-few-2
-    part-count-few-start-2
-    part-count-few-end-2
-    count-few-requires-2
     cast-result
-    add-result
     returns)

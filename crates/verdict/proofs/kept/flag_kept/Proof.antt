@@ -8,11 +8,11 @@ use lib.ListN.{length, getD, length-set}
 use lib.Seq.{getD-set-other}
 use Rattle.table.specs.Words.{types}
 use Rattle.table.proofs.Lists.{fill-more}
 use Rattle.verdict.specs.steps.Spoils.{Flag}
-use Rattle.editing.specs.Kept.{KeptBelow}
-use Rattle.editing.proofs.Verdicts.{kept-flag}
-use Rattle.editing.proofs.kept.flag_kept.Statement.{statement}
-use Rattle.editing.proofs.kept.flag_kept.Tie as tie
+use Rattle.verdict.specs.Kept.{KeptBelow}
+use Rattle.verdict.proofs.Readings.{kept-flag}
+use Rattle.verdict.proofs.kept.flag_kept.Statement.{statement}
+use Rattle.verdict.proofs.kept.flag_kept.Tie as tie
 
 abbrev Inv-loop : tie.InvT-loop
 Inv-loop words kept flags₀ e t₀ flags t = (t ≤ e) × (length flags ≡ 256) × ((j : ℕ) → j < t → Flag (KeptBelow kept j) (getD flags j 0)) × ((j : ℕ) → e ≤ j → getD flags j 0 ≡ getD flags₀ j 0)

@@ -1,7 +1,7 @@
 -- Both words are read. Assumes nothing.
 use borrow.Author.Needs.{needs}
-use Rattle.editing.proofs.kept.entry_at.Statement.{statement}
-use Rattle.editing.proofs.kept.entry_at.Tie as tie
+use Rattle.verdict.proofs.kept.entry_at.Statement.{statement}
+use Rattle.verdict.proofs.kept.entry_at.Tie as tie
 
 mul-word-at : tie.Need-mul-word-at
 mul-word-at c = search needs

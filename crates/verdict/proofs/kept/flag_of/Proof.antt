@@ -1,8 +1,8 @@
 -- By whether the count is 0. Assumes nothing.
 use mathlib.Core.Path.{refl}
-use Rattle.editing.specs.steps.Reading.{none, some}
-use Rattle.editing.proofs.kept.flag_of.Statement.{statement}
-use Rattle.editing.proofs.kept.flag_of.Tie as tie
+use Rattle.verdict.specs.steps.Reading.{none, some}
+use Rattle.verdict.proofs.kept.flag_of.Statement.{statement}
+use Rattle.verdict.proofs.kept.flag_of.Tie as tie
 
 returns : tie.Need-returns
 returns c = none (c .if1 .taken) refl
