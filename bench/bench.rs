@@ -1,4 +1,4 @@
-// Measures the sixteen calls of the proved library, all but `read_dtd` against the second program and `fast`. bench/run builds and runs it; modes:
+// Measures the seventeen calls of the proved library, all but `read_dtd` against the second program and `fast`. bench/run builds and runs it; modes:
 //   check               reads a stream of cases (second/README.md) and compares all makes
 //   time                nanoseconds a call
 //   growth              the same for tables that double
@@ -6,6 +6,7 @@
 //   roles               nanoseconds a role of complete_roles, and a single call on each role
 //   maps                nanoseconds a call over bit maps, and on the marks that they spell
 //   sheets              nanoseconds a role of month_sheet, and a single verdict on each role
+//   edits               nanoseconds a click of edit_mark, and a single verdict after each click
 //   listings            nanoseconds a call of write_listing, of read_listing, and of read_dtd on the same text
 //   lines               nanoseconds a line of listings that double
 //   texts               nanoseconds a call of read_dtd, a line for each text
@@ -14,14 +15,18 @@
 //   list                what is measured: CALL INPUT and the number of its cases
 //   shows               what is measured of complete_roles: an input of complete, and the number of roles
 //   months              what is measured of month_sheet: the input whose marks the roles have, and the number of roles
+//   clicks              what is measured of edit_mark: an input, and the number of its clicks
 //   tables              the inputs of `growth`
 //   lists               the inputs of `lines`, each with the number of its lines
 //   count MAKE CALL INPUT TIMES   makes a call on an input so many times, to be counted from outside; of complete_roles and month_sheet an input is
-//                       INPUT/ROLES, and CALL may be complete_each or judge_each, the single call on each of the roles
+//                       INPUT/ROLES, and CALL may be complete_each or judge_each, the single call on each of the roles; of edit_mark it is
+//                       INPUT/CLICKS, and CALL may be judge_after, the verdict after each click
 
 mod calls;
 mod carry;
 mod dtd;
+mod edit;
+mod edits;
 mod fast;
 mod inputs;
 mod listed;
@@ -76,7 +81,7 @@ fn compare_on(case: &Case, call: Call, at: &str) {
 fn check() {
     let mut stream = Vec::new();
     std::io::stdin().read_to_end(&mut stream).unwrap_or_else(|_| fail("cannot read the input"));
-    let plain::Cases { policies, texts, shows, maps, moves, months, sums, writes, reads } = plain::cases_of(&stream);
+    let plain::Cases { policies, texts, shows, maps, moves, months, sums, edits, writes, reads } = plain::cases_of(&stream);
     for (k, case) in policies.iter().enumerate() {
         CALLS.iter().for_each(|&call| compare_on(case, call, &format!("case {}", k)));
     }
@@ -96,6 +101,8 @@ fn check() {
     let (own_months, own_sums) = sheets::check(&months, &sums);
     println!("equal: {} months of roles, and {} measured ones", months.len(), own_months);
     println!("equal: {} sums of sheets, and {} measured ones", sums.len(), own_sums);
+    let (clicks, own) = edit::check(&edits);
+    println!("equal: {} cases of {} edits, and {} measured clicks", edits.len(), clicks, own);
     let own = listings::check(&writes, &reads);
     println!("equal: {} listings written, {} read, and {} measured calls", writes.len(), reads.len(), own);
 }
@@ -138,12 +145,13 @@ fn time() {
     maps::time();
     carry::time();
     sheets::time();
+    edit::time();
     listings::time();
 }
 
 fn growth() {
     println!("ns a call, proved and fast, least of the rounds\n");
-    let others = [carry::NAME, sheets::MONTH, sheets::ADD];
+    let others = [carry::NAME, sheets::MONTH, sheets::ADD, edit::NAME];
     let names = CALLS.map(Call::name).into_iter().chain(maps::CALLS.map(maps::name)).chain(others);
     let names: Vec<&str> = names.collect();
     println!("| Table | {} |", names.join(" | "));
@@ -158,6 +166,7 @@ fn growth() {
         maps::CALLS.iter().for_each(|&call| line += &maps::growth(call, size));
         line += &carry::growth(size);
         line += &sheets::growth(size);
+        line += &edit::growth(size);
         println!("| {} |{}", doubling(Call::Mend)[size].name, line);
     }
 }
@@ -197,6 +206,7 @@ fn stacks() {
     println!("| {} | {} |", carry::NAME, MAKES.each_ref().map(carry::most_stack).join(" | "));
     println!("| {} | {} |", sheets::MONTH, MAKES.each_ref().map(sheets::most_stack).join(" | "));
     println!("| {} | {} |", sheets::ADD, MAKES.each_ref().map(sheets::most_stack_of_sums).join(" | "));
+    println!("| {} | {} |", edit::NAME, MAKES.each_ref().map(edit::most_stack).join(" | "));
     for way in listings::WAYS {
         let found = MAKES.each_ref().map(|make| listings::most_stack(make, way));
         println!("| {} | {} |", way.name(), found.join(" | "));
@@ -253,6 +263,7 @@ fn main() {
         ["roles"] => roles::time_roles(),
         ["maps"] => maps::time_maps(),
         ["sheets"] => sheets::time_roles(),
+        ["edits"] => edit::time_clicks(),
         ["listings"] => listings::time_listings(),
         ["lines"] => listings::growth(),
         ["texts"] => dtd::time(),
@@ -261,6 +272,7 @@ fn main() {
         ["list"] => list(),
         ["shows"] => roles::list(),
         ["months"] => sheets::list_months(),
+        ["clicks"] => edit::list(),
         ["tables"] => tables(),
         ["lists"] => listings::list_growing(),
         ["count", make, dtd::NAME, text, times] => dtd::count(make, text, times),
@@ -270,14 +282,16 @@ fn main() {
         ["count", make, sheets::MONTH, month, times] => sheets::count(make, month, times),
         ["count", make, sheets::EACH, month, times] => sheets::count_each(make, month, times),
         ["count", make, sheets::ADD, sum, times] => sheets::count_sums(make, sum, times),
+        ["count", make, edit::NAME, clicks, times] => edit::count(make, clicks, times),
+        ["count", make, edit::AFTER, clicks, times] => edit::count_after(make, clicks, times),
         ["count", make, call, input, times] => match (maps::call_of(call), listings::way_of(call)) {
             (Some(call), _) => maps::count(make, call, input, times),
             (_, Some(way)) => listings::count(make, way, input, times),
             _ => count(make, call, input, times),
         },
         _ => fail(
-            "modes: check | time | growth | stack | roles | maps | sheets | listings | lines | texts | lengths | documents FOLDER | list | \
-             shows | months | tables | lists | count MAKE CALL INPUT TIMES",
+            "modes: check | time | growth | stack | roles | maps | sheets | edits | listings | lines | texts | lengths | documents FOLDER | \
+             list | shows | months | clicks | tables | lists | count MAKE CALL INPUT TIMES",
         ),
     }
 }

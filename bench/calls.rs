@@ -1,6 +1,6 @@
 // The calls, of three makes: proved, fast and second. Five take a table and a policy, four of these also a policy as two bit maps, one a table and
-// the policies of all roles, one a policy and a revised table, one a table and the policies of a month's roles, and one a table and two sheets; two
-// take DTD text and a policy, or its listing; the last reads DTD text, and has no fast make.
+// the policies of all roles, one a policy and a revised table, one a table and the policies of a month's roles, one a table and two sheets, and one a
+// policy, what is kept of it and a mark; two take DTD text and a policy, or its listing; the last reads DTD text, and has no fast make.
 
 use crate::{fast, plain, proved};
 
@@ -23,6 +23,7 @@ pub type JudgeMendMaps = fn(&[u16], &[u8], &[u8], &[u8], &[u8]) -> Outcome;
 pub type CarryMarks = fn(&[u16], &[u8], &[u16], &[u16], &mut [u8], &mut [u8]) -> Outcome;
 pub type MonthSheet = fn(&[u16], u32, &[u8], &mut [u32]) -> Sheet;
 pub type AddSheets = fn(&[u16], Sheet, &mut [u32], Sheet, &[u32]) -> Sheet;
+pub type EditMark = fn(&[u16], &mut [u8], &mut [u16], usize, u8) -> Outcome;
 pub type Listing = fn(&[u8], u16, &[u8], &mut [u8]) -> Outcome;
 pub type ReadDtd = fn(&[u8], &mut [u16]) -> Outcome;
 
@@ -41,6 +42,7 @@ pub struct Make {
     pub carry_marks: CarryMarks,
     pub month_sheet: MonthSheet,
     pub add_sheets: AddSheets,
+    pub edit_mark: EditMark,
     pub write_listing: Listing,
     pub read_listing: Listing,
     pub read_dtd: Option<ReadDtd>,
@@ -62,6 +64,7 @@ pub const MAKES: [Make; 3] = [
         carry_marks: proved::carry_marks,
         month_sheet: proved::month_sheet,
         add_sheets: proved::add_sheets,
+        edit_mark: proved::edit_mark,
         write_listing: proved::write_listing,
         read_listing: proved::read_listing,
         read_dtd: Some(proved::read_dtd),
@@ -81,6 +84,7 @@ pub const MAKES: [Make; 3] = [
         carry_marks: fast::carry_marks,
         month_sheet: fast::month_sheet,
         add_sheets: fast::add_sheets,
+        edit_mark: fast::edit_mark,
         write_listing: fast::write_listing,
         read_listing: fast::read_listing,
         read_dtd: None,
@@ -100,6 +104,7 @@ pub const MAKES: [Make; 3] = [
         carry_marks: plain::carry_marks,
         month_sheet: plain::month_sheet,
         add_sheets: plain::add_sheets,
+        edit_mark: plain::edit_mark,
         write_listing: plain::write_listing,
         read_listing: plain::read_listing,
         read_dtd: Some(plain::read_dtd),

@@ -1,5 +1,6 @@
 // The calls but `read_dtd` written by hand for speed, in plain Rust: what the proved code is measured against. fast/roles.rs has that on all roles,
-// fast/maps.rs those on bit maps, fast/carry.rs that on a revised schema, fast/sheet.rs those on sheets, and fast/listing.rs those on listings.
+// fast/maps.rs those on bit maps, fast/carry.rs that on a revised schema, fast/sheet.rs those on sheets, fast/listing.rs those on listings, and
+// fast/edit.rs that on one mark.
 // The steps are those of the proved code: a table check that puts the types in order, one bottom-up pass for whether something is forbidden below
 // each type, Warshall's closure for each choice, the chain of the first breach and a count of what is forbidden below its child, a completion that
 // opens downwards, a mend in ascending order with the closure made anew for each mark taken. What is done by hand: a table is accepted by a pass over
@@ -9,6 +10,7 @@
 // asked once a call, and what goes by it is compiled for each. Nothing is allocated, and nothing is unsafe.
 
 mod carry;
+mod edit;
 mod listing;
 mod maps;
 mod roles;
@@ -16,6 +18,7 @@ mod sheet;
 
 use crate::calls::Outcome;
 pub use carry::carry_marks;
+pub use edit::edit_mark;
 pub use listing::{read_listing, write_listing};
 pub use maps::{complete_maps, judge_maps, judge_mend_maps, mend_maps};
 pub use roles::complete_roles;
@@ -678,16 +681,26 @@ fn first_breach(table: &Table, marks: &[u8]) -> Option<(Breach, Tally)> {
 fn first_breach_in<const IS_TWO: bool>(table: &Table, marks: &[u8]) -> Option<(Breach, Tally)> {
     let mut spoilt = [false; 256];
     fill_spoilt(table, marks, &mut spoilt);
+    let breach = first_breach_by::<IS_TWO>(table, marks, &spoilt)?;
+    let tally = tally_at(table, marks, &spoilt, &breach);
+    Some((breach, tally))
+}
+
+/// The first breach by what is said to be spoilt.
+fn first_breach_by<const IS_TWO: bool>(
+    table: &Table,
+    marks: &[u8],
+    spoilt: &[bool; 256],
+) -> Option<Breach> {
     let mut first = 0;
     for (x, record) in table.records.iter().enumerate() {
         let breach = match record[0] {
-            CHOICE => choice_breach::<IS_TWO>(marks, &spoilt, x, table.children(record), first),
-            STAR => star_breach::<IS_TWO>(marks, &spoilt, x, table.children(record), first),
+            CHOICE => choice_breach::<IS_TWO>(marks, spoilt, x, table.children(record), first),
+            STAR => star_breach::<IS_TWO>(marks, spoilt, x, table.children(record), first),
             _ => None,
         };
         if let Some(breach) = breach {
-            let tally = tally_at(table, marks, &spoilt, &breach);
-            return Some((breach, tally));
+            return Some(breach);
         }
         first += table.privileges_of(record);
     }

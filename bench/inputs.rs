@@ -4,13 +4,13 @@
 // reached; and tables that double, by themselves and below such a star.
 
 use crate::calls::{Call, Case};
-use crate::fast;
+use crate::{fail, fast};
 
 pub const EMPTY: u16 = 0;
 pub const TEXT: u16 = 1;
 pub const SEQUENCE: u16 = 2;
 pub const CHOICE: u16 = 3;
-const STAR: u16 = 4;
+pub const STAR: u16 = 4;
 
 pub const UNSET: u8 = 0;
 pub const ALLOWED: u8 = 1;
@@ -33,7 +33,7 @@ pub struct Type {
 pub const ONE: u16 = 1;
 pub const TWO: u16 = 2;
 
-fn privileges_of(format: u16, it: &Type) -> usize {
+pub fn privileges_of(format: u16, it: &Type) -> usize {
     let n = it.children.len();
     match (it.kind, format) {
         (TEXT, _) => 1,
@@ -504,6 +504,11 @@ pub fn inputs(call: Call) -> Vec<Input> {
     let mut all = inputs_of_one(call);
     all.extend(inputs_of_two(call));
     all
+}
+
+/// An input by its name.
+pub fn input_of<'a>(inputs: &'a [Input], name: &str) -> &'a Input {
+    inputs.iter().find(|it| it.name == name).unwrap_or_else(|| fail("no such input"))
 }
 
 /// E, C and how many types are choices: E doubles, then C, then V.

@@ -4,12 +4,13 @@ use crate::calls::{Case, Outcome, Sheet};
 use second::answers::{answer, Answer, Breach};
 use second::carry_case::CarryCase;
 use second::dtd_case::DtdCase;
+use second::edit_case::EditCase;
 use second::listing_case::ListingCase;
 use second::maps_case::MapsCase;
 use second::roles_case::RolesCase;
 use second::sheet_case::SheetCase;
 use second::sum_case::SumCase;
-use second::{carrying, cases, completing, conditions, dtd, listing, maps, mending, roles, sheet, table};
+use second::{carrying, cases, completing, conditions, dtd, editing, listing, maps, mending, roles, sheet, table};
 
 fn outcome_of(outcome: second::answers::Outcome) -> Outcome {
     let Answer { number, place, count, breach } = answer(outcome);
@@ -116,6 +117,18 @@ pub fn add_sheets(
     sheet_of(told.unwrap_or_else(|refused| refused))
 }
 
+pub fn edit_mark(words: &[u16], marks: &mut [u8], kept: &mut [u16], privilege: usize, mark: u8) -> Outcome {
+    outcome_of(editing::edit_mark(words, marks, kept, privilege, mark))
+}
+
+/// What is to be kept of a policy; nothing of one that is refused.
+pub fn entries(words: &[u16], marks: &[u8]) -> Vec<u16> {
+    let Ok(table) = conditions::check_policy(words, marks) else {
+        return Vec::new();
+    };
+    (0..table.types.len()).flat_map(|t| editing::entry(&table, marks, t)).collect()
+}
+
 pub fn write_listing(text: &[u8], format: u16, marks: &[u8], out: &mut [u8]) -> Outcome {
     outcome_of(listing::write_listing(text, format, marks, out))
 }
@@ -138,6 +151,7 @@ pub struct Cases {
     pub moves: Vec<CarryCase>,
     pub months: Vec<SheetCase>,
     pub sums: Vec<SumCase>,
+    pub edits: Vec<EditCase>,
     pub writes: Vec<ListingCase>,
     pub reads: Vec<ListingCase>,
 }
@@ -153,6 +167,7 @@ pub fn cases_of(stream: &[u8]) -> Cases {
             cases::Case::Carry(case) => all.moves.push(case),
             cases::Case::Sheet(case) => all.months.push(case),
             cases::Case::Sum(case) => all.sums.push(case),
+            cases::Case::Edit(case) => all.edits.push(case),
             cases::Case::Write(case) => all.writes.push(case),
             cases::Case::Read(case) => all.reads.push(case),
         }

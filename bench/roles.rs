@@ -1,7 +1,7 @@
 // Measures `complete_roles`, beside the single call on each role.
 
 use crate::calls::{Call, Case, Make, Outcome, MAKES};
-use crate::inputs::{inputs, Input};
+use crate::inputs::{input_of, inputs, Input};
 use crate::rounds::rounds;
 use crate::stack::stack_of;
 use crate::{compare, fail, make_of, row, times_of};
@@ -54,7 +54,7 @@ const COUNTS: [(&str, &[usize]); 6] = [
 fn shows() -> Vec<Show> {
     let inputs = inputs(Call::Complete);
     let of = |(name, counts): &(&str, &[usize])| -> Vec<Show> {
-        let input = inputs.iter().find(|it| it.name == *name).unwrap_or_else(|| fail("no such input"));
+        let input = input_of(&inputs, name);
         counts.iter().map(|&count| Show::of(input, count)).collect()
     };
     COUNTS.iter().flat_map(of).collect()

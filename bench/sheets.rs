@@ -2,8 +2,8 @@
 
 use crate::calls::{Call, Case, Make, Sheet, MAKES};
 use crate::inputs::{
-    by_chance, cyclic, doubling, inputs, largest_table, named, ordinary, unreached, v_of, Input, ALLOWED, FORBIDDEN, ONE, TWO,
-    UNSET,
+    by_chance, cyclic, doubling, input_of, inputs, largest_table, named, ordinary, unreached, v_of, Input, ALLOWED, FORBIDDEN, ONE,
+    TWO, UNSET,
 };
 use crate::plain::sheet_of;
 use crate::rounds::rounds;
@@ -71,10 +71,6 @@ const ROLES: [(&str, &[u32]); 6] = [
     ("scattered", &[40]),
     ("largest-broken", &[40]),
 ];
-
-fn input_of<'a>(inputs: &'a [Input], name: &str) -> &'a Input {
-    inputs.iter().find(|it| it.name == name).unwrap_or_else(|| fail("no such input"))
-}
 
 fn months() -> Vec<Month> {
     let inputs = inputs_of_roles();
