@@ -26,7 +26,7 @@ returns-3 : tie.Need-returns-3
 returns-3 c =
     let first = c .before .before .before in
     let fit = policy-fits (first .if1 .left) (first .before .before .check-policy .ensures .answer) in
-    record { answer = refused (no-mark (fit .0) (omega (arith, fit .1, c .before .if2 .left)) (c .if3 .taken) refl refl); up = λ e. absurd (omega arith) }
+    record { answer = refused (no-mark (fit .0) (omega (arith, fit .1, c .before .if2 .left)) (omega (arith, c .if3 .taken)) refl refl); up = λ e. absurd (omega arith) }
 
 types-requires : tie.Need-types-requires
 types-requires c κs = search needs
