@@ -26,7 +26,7 @@ use verdict::breaches::{breach_in, cycle_breach, star_breach};
 use verdict::spoilt::flag_spoilt;
 
 // The conditions that are broken.
-#[derive(Drop)]
+#[derive(Clone, Copy)]
 pub struct Broken {
     pub insert_delete: bool,
     pub chain: bool,

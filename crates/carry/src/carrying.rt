@@ -16,7 +16,7 @@ use table::rule::{child_at, children};
 use table::words::{types, word_at};
 
 // An old type and the new one that it becomes, each with its first privilege.
-#[derive(Drop)]
+#[derive(Clone, Copy)]
 struct Site {
     x: usize,
     first: usize,

@@ -11,7 +11,7 @@ use table::privilege::{Numbering, missing, row_at, width};
 use table::words::word_at;
 
 // A row, the replacements of one child: its first privilege, the position by which that child cannot be replaced, and how many kinds there are.
-#[derive(Drop)]
+#[derive(Clone, Copy)]
 struct Row {
     first: usize,
     gap: usize,

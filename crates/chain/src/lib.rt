@@ -13,7 +13,7 @@ use policy::rows::{allowed_rows, has, leading_into, lowest_shared, only};
 use table::privilege::Numbering;
 
 // The positions of a chain, both ends among them: how many there are, and 17 places, 0 in the unused ones.
-#[derive(Drop)]
+#[derive(Clone, Copy)]
 pub struct Chain {
     pub length: usize,
     pub at: [u8; 17],

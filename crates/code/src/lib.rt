@@ -55,7 +55,7 @@ pub(crate) fn insert(code: &mut [u32; 1280], size: usize, at: usize, w: u32) -> 
 }
 
 // Where reading ended, and how many words the code has.
-#[derive(Drop)]
+#[derive(Clone, Copy)]
 pub struct Put {
     pub at: usize,
     pub size: usize,

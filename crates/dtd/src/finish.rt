@@ -12,7 +12,7 @@ use table::words::{record_word, types};
 use table::{Checked, check_table};
 
 // V; or the lowest type with over 16 children.
-#[derive(Drop)]
+#[derive(Clone, Copy)]
 enum Total {
     Wide(usize),
     Sum(usize),

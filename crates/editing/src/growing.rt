@@ -16,7 +16,7 @@ use table::words::lesser;
 use verdict::below::{Tally, add_stretch};
 
 // How many types are listed, and what is forbidden in them.
-#[derive(Drop)]
+#[derive(Clone, Copy)]
 pub(crate) struct Grown {
     pub listed: usize,
     pub tally: Tally,

@@ -6,7 +6,7 @@ ghost use Rattle.leaders.specs.Leaders.{LeadersOf, often_of};
 ghost use Rattle.leaders.specs.Steps.Entering.{LeadersBelow, Behind, Bar};
 
 // How many leaders there are, and which; 0 in unused places.
-#[derive(Drop)]
+#[derive(Clone, Copy)]
 pub struct Leaders {
     pub count: u32,
     pub at: [usize; 3],

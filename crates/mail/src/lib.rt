@@ -87,7 +87,7 @@ fn read_by(words: &[u16], names: &[u8], starts: &[u16], listing: &[u8], out: &mu
 }
 
 // What is asked for by a schema: the listing of marks, or the marks of a listing.
-#[derive(Drop)]
+#[derive(Clone, Copy)]
 enum Ask {
     Write,
     Read,

@@ -11,7 +11,7 @@ use table::rule::{Rule, child_at, children, rule_at};
 use table::words::word_at;
 
 // An edit by what it names: its type, and the children: for a replacement the one that goes and the one that comes.
-#[derive(Drop)]
+#[derive(Clone, Copy)]
 pub(crate) enum Naming {
     Text(usize),
     Insert(usize, usize),

@@ -8,13 +8,13 @@ use scan::bytes::{Class, is, is_of};
 use scan::piece::blanks;
 
 // A declaration, with the places of its name and of its content; or none is left.
-#[derive(Drop)]
+#[derive(Clone, Copy)]
 pub enum Next {
     Declared(usize, usize),
     End,
 }
 
-#[derive(Drop)]
+#[derive(Clone, Copy)]
 pub struct Reader<'a> {
     pub text: &'a [u8],
     pub at: usize,

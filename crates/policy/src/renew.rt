@@ -7,7 +7,7 @@ use super::marks::mark_at;
 use table::privilege::{Numbering, deletion, exchange, insertion, is_exchangeable};
 
 // Whether a star's child can be renewed: no; yes; or yes, but the exchange is forbidden where insert and delete are both allowed.
-#[derive(Drop)]
+#[derive(Clone, Copy)]
 pub enum Renewal {
     Shut,
     Barred,

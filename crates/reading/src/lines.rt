@@ -10,7 +10,7 @@ use super::matching::{find_type, sign_at};
 use table::words::{types, word_at};
 
 // What a line says: its mark, its type and its privilege; and the place behind it, which is 0 if there is no line.
-#[derive(Drop)]
+#[derive(Clone, Copy)]
 pub(crate) struct Line {
     pub mark: u8,
     pub x: usize,

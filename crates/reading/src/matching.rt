@@ -9,7 +9,7 @@ use runs::{is_same, part};
 use table::words::word_at;
 
 // A number by the text that stands for it, and the place behind that text, which is 0 if there is none.
-#[derive(Drop)]
+#[derive(Clone, Copy)]
 pub(crate) struct Ended {
     pub number: usize,
     pub end: usize,

@@ -62,7 +62,7 @@ fn is_no_dash(b: u8) -> bool
 }
 
 // White space, the first byte of a name, a byte of a name, a mark, any byte but '-'.
-#[derive(Drop)]
+#[derive(Clone, Copy)]
 pub enum Class {
     Space,
     Start,

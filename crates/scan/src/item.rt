@@ -177,7 +177,7 @@ fn comment(s: &[u8], at: usize) -> Step
 }
 
 // What an item is, and where it ends.
-#[derive(Drop)]
+#[derive(Clone, Copy)]
 enum Item {
     Declared(usize),
     Remarked(usize),

@@ -9,7 +9,7 @@ mod item;
 pub mod piece;
 
 // Where a part of the text ends; the first byte that cannot stand in it; the byte at which it passes a limit.
-#[derive(Drop)]
+#[derive(Clone, Copy)]
 pub enum Step {
     At(usize),
     Bad(usize),

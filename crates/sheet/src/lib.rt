@@ -13,7 +13,7 @@ use roles::count_roles;
 
 // How many roles are clean, break condition 1, 2 and 3 somewhere, and are refused.
 #[repr(C)]
-#[derive(Drop)]
+#[derive(Clone, Copy)]
 pub struct Figures {
     pub clean: u32,
     pub insert_delete: u32,
@@ -24,7 +24,7 @@ pub struct Figures {
 
 // What a call answers: number and place; the figures; how many leaders there are, and which, 0 in unused places.
 #[repr(C)]
-#[derive(Drop)]
+#[derive(Clone, Copy)]
 pub struct Sheet {
     pub number: usize,
     pub place: usize,

@@ -33,7 +33,7 @@ use verdict::{Answer, judge_policy, number_of, refused};
 
 // An answer as nine numbers, the condition by its number, 0 where there is none; then the length of the chain and its 17 places.
 #[repr(C)]
-#[derive(Drop)]
+#[derive(Clone, Copy)]
 pub struct Outcome {
     pub number: usize,
     pub place: usize,

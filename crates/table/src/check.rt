@@ -11,7 +11,7 @@ use super::privilege::privileges;
 use super::rule::children;
 use super::words::{entries, record_word, stretch, types, word_at};
 
-#[derive(Drop)]
+#[derive(Clone, Copy)]
 pub enum Check {
     Format,
     Layout,

@@ -15,14 +15,14 @@ pub mod words;
 use order::bottom_up;
 
 // What a search found: the lowest place, or none.
-#[derive(Drop)]
+#[derive(Clone, Copy)]
 pub enum Found {
     At(usize),
     Nothing,
 }
 
 // The number and the place of an answer.
-#[derive(Drop)]
+#[derive(Clone, Copy)]
 pub struct Checked {
     pub number: u8,
     pub place: usize,

@@ -111,7 +111,7 @@ pub fn first_privileges(words: &[u16], firsts: &mut [u16; 256])
 }
 
 // How the edits at a type are numbered.
-#[derive(Drop)]
+#[derive(Clone, Copy)]
 pub struct Numbering {
     pub first: usize,
     pub count: usize,

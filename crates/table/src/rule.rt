@@ -6,7 +6,7 @@ ghost use Rattle.table.specs.Rule.{rule_of, rule_at, children_at, child_at};
 use super::words::{record_word, types, word_at};
 
 // A type's rule, with the index of its first child in the child list and the number of its children.
-#[derive(Drop)]
+#[derive(Clone, Copy)]
 pub enum Rule {
     Empty,
     Text,

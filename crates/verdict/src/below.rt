@@ -13,7 +13,7 @@ use table::privilege::{gap_of, privileges_in};
 use table::words::types;
 
 // The lowest of some privileges, and how many they are; 0 and 0 for none.
-#[derive(Drop)]
+#[derive(Clone, Copy)]
 pub struct Tally {
     pub lowest: usize,
     pub count: usize,

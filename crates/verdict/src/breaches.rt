@@ -32,14 +32,14 @@ use table::rule::{Rule, child_at, children, rule_at};
 use table::words::{types, word_at};
 
 // A pair of positions, or none.
-#[derive(Drop)]
+#[derive(Clone, Copy)]
 pub enum Pair {
     At(usize, usize),
     Nothing,
 }
 
 // What breaks a spot: a privilege of its type by itself, or what is forbidden below a child.
-#[derive(Drop)]
+#[derive(Clone, Copy)]
 pub enum Breaker {
     Own(usize),
     Below(usize),

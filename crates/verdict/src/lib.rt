@@ -12,7 +12,7 @@ pub mod spoilt;
 use policy::marks::check_policy;
 
 // What a breach breaks.
-#[derive(Drop)]
+#[derive(Clone, Copy)]
 pub enum Condition {
     None,
     InsertDelete,
@@ -33,7 +33,7 @@ pub fn number_of(condition: Condition) -> usize
 }
 
 // Where a breach is: the condition, the type at which it is broken, and the two positions there. All 0 where there is none.
-#[derive(Drop)]
+#[derive(Clone, Copy)]
 pub struct Spot {
     pub condition: Condition,
     pub element: usize,
@@ -43,7 +43,7 @@ pub struct Spot {
 
 // A breach: where it is, the lowest forbidden privilege that breaks the condition there, how many do, and the chain from i to j: how many positions it
 // has, and they themselves. All 0 where there is none.
-#[derive(Drop)]
+#[derive(Clone, Copy)]
 pub struct Breach {
     pub condition: Condition,
     pub element: usize,
@@ -56,7 +56,7 @@ pub struct Breach {
 }
 
 // What a call answers.
-#[derive(Drop)]
+#[derive(Clone, Copy)]
 pub struct Answer {
     pub number: u8,
     pub place: usize,

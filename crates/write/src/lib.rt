@@ -8,7 +8,7 @@ mod read;
 mod row;
 
 // How many types and child entries a table has.
-#[derive(Drop)]
+#[derive(Clone, Copy)]
 pub struct Counts {
     pub types: usize,
     pub kids: usize,

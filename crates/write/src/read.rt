@@ -88,7 +88,7 @@ pub fn free_after(need: usize, x: usize, w: usize) -> usize
 }
 
 // A place in a code, and the first number that is free there.
-#[derive(Drop)]
+#[derive(Clone, Copy)]
 pub struct Place {
     pub at: usize,
     pub free: usize,

@@ -57,7 +57,7 @@ fn put_last(out: &mut [u16; 1800], i: usize, y: usize, extra: usize)
 }
 
 // What a row is made of: its kind, how many operands its children are, and how many types are made inside.
-#[derive(Drop)]
+#[derive(Clone, Copy)]
 pub struct Form {
     pub kind: usize,
     pub operands: usize,
