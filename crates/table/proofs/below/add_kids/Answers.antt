@@ -4,6 +4,7 @@ use native.Mathlib.Omega.{arith}
 use mathlib.Core.Logic.{⊎_elim}
 use Prim.Native.Nat.{◌<◌}
 use Rattle.table.proofs.below.add_kids.Goals as goal
+use Rattle.table.proofs.below.add_kids.Goals.{then-marks-child-ne1, else-marks-child-ne1}
 
 pub loop-i-init : goal.loop-i-init
 loop-i-init c = add_start c.requires.0
@@ -34,9 +35,10 @@ pub loop-i-preserved : goal.loop-i-preserved
 loop-i-preserved c = let low : c.word_at-child.result < 256 = omega (arith, c.word_at-child.ensures.is, c.requires.1 c.loop-i.i c.loop-i-test.true) in
     let s = c.loop-i.invariant in
     let l = c.loop-i-test.true in
-    ⊎_elim (λ w. rw (w.1, w.2, w.3) (add_one_more s l c.word_at-child.ensures.is low w.0.taken))
-    (λ w. rw (w.1, w.2, w.3) (add_skip s l c.word_at-child.ensures.is low w.0.left))
-    c.if-marks-child-ne1.branch
+    elim c.if-marks-child-ne1.branch [
+      then-marks-child-ne1 w ↦ rw (w.marks-is, w.order-is, w.n-is) (add_one_more s l c.word_at-child.ensures.is low w.if-marks-child-ne1.true)
+    | else-marks-child-ne1 w ↦ rw (w.marks-is, w.order-is, w.n-is) (add_skip s l c.word_at-child.ensures.is low w.if-marks-child-ne1.false)
+    ]
 
 pub returns : goal.returns
 returns c = add_all c.loop-i.invariant c.loop-i-test.false

@@ -27,6 +27,3 @@ mark_below-requires c = let known = childed Unreached (omega arith) (rw c.in-Unr
 pub returns-in-Unreached : goal.returns-in-Unreached
 returns-in-Unreached c = let known = childed Unreached (omega arith) (rw c.in-Unreached.is at c.requires.0) in
     λ e. reached_as known c.stretch.ensures c.mark_below.ensures
-
-pub returns-in_default : goal.returns-in_default
-returns-in_default c = λ e. absurd (no_other (rw e at c.in_default.in_default-own.keys2))

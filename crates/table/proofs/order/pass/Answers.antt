@@ -5,9 +5,9 @@ use Rattle.table.proofs.Passes.{type_low, passing_start, passing_end, passing_lo
 use native.Mathlib.Omega.{arith}
 use lib.ListN.{get_or}
 use mathlib.Core.Path.{◌≡◌}
-use mathlib.Core.Logic.{⊎_elim}
 use Prim.Native.Nat.{◌+◌, ◌-◌, ◌≤◌, ◌<◌}
 use Rattle.table.proofs.order.pass.Goals as goal
+use Rattle.table.proofs.order.pass.Goals.{then-left-eq0, else-left-eq0}
 
 pub bounds-order-place : goal.bounds-order-place
 bounds-order-place c = let few : types c.args.words.now ≤ 256 = c.requires.0.tiled.laid.few in
@@ -68,9 +68,10 @@ loop-i-preserved c = let some : 1 ≤ get_or c.loop-i.counts c.word_at-child.res
     let p = c.loop-i.invariant in
     let l = c.loop-i-test.true in
     let one : get_or c.loop-i.counts c.word_at-child.result 0 - 1 + 1 ≡ get_or c.loop-i.counts c.word_at-child.result 0 = omega (arith, some) in
-    ⊎_elim (λ w. rw (w.1, w.2) (passing_take g p l c.word_at-child.ensures.is one w.0.taken))
-    (λ w. rw (w.1, w.2) (passing_keep g p l c.word_at-child.ensures.is one w.0.left))
-    c.if-left-eq0.branch
+    elim c.if-left-eq0.branch [
+      then-left-eq0 w ↦ rw (w.order-is, w.free-is) (passing_take g p l c.word_at-child.ensures.is one w.if-left-eq0.true)
+    | else-left-eq0 w ↦ rw (w.order-is, w.free-is) (passing_keep g p l c.word_at-child.ensures.is one w.if-left-eq0.false)
+    ]
 
 pub returns : goal.returns
 returns c = passing_end c.requires.0 c.loop-i.invariant c.loop-i-test.false

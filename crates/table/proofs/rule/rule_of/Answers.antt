@@ -1,4 +1,5 @@
 -- Each arm names the kind that it was chosen by. Assumes nothing.
+use borrow.Author.Rules.{rules}
 use Rattle.table.proofs.Rules.{rule_else}
 use Rattle.table.specs.Rule.{rule_of}
 use Rattle.table.proofs.rule.rule_of.Goals as goal
@@ -24,5 +25,4 @@ unfolding rule_of
 returns-in-4 c = rw c.in-4.is
 
 pub returns-in_default : goal.returns-in_default
-returns-in_default c = let n = c.in_default.in_default-own.rest in
-    rule_else _ _ _ n.0.0.0.0.1 n.0.0.0.1 n.0.0.1 n.0.1 n.1
+returns-in_default c = rule_else _ _ _ (search rules) (search rules) (search rules) (search rules) (search rules)

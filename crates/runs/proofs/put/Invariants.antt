@@ -1,0 +1,11 @@
+-- The loop has put the bytes passed. Assumes nothing.
+use Prim.Native.Nat.{◌-◌}
+use lib.ListN.{length}
+use Rattle.runs.proofs.Texts.{Filled}
+use Rattle.runs.proofs.put.Given as goal
+
+abbrev pub invariant-loop-k : goal.invariant-loop-k
+invariant-loop-k l = Filled l.initial.out l.at l.bytes l.k l.out
+
+abbrev pub decreases-loop-k : goal.decreases-loop-k
+decreases-loop-k l = length l.bytes - l.k
