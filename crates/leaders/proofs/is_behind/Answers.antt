@@ -9,5 +9,5 @@ often_at-requires c = omega (arith, c.requires.0.inside c.args.k (omega (arith, 
 
 pub returns : goal.returns
 returns c = let args = c.args in
-    tells_behind (often_of args.counts.now) args.t2 c.often_at.result c.often_at-2.result (omega arith) c.often_at.ensures
+    tells_behind (often_of args.counts.now) args.at c.often_at.result c.often_at-2.result (omega arith) c.often_at.ensures
     c.often_at-2.ensures
