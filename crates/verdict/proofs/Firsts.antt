@@ -140,7 +140,7 @@ module _ (ws marks : List ℕ) where
   pub first_one : {b c : Breach} → FirstBreach ws marks b → FirstBreach ws marks c → b ≡ c
   first_one {b} {c} f g =
       let e : spot_of b ≡ spot_of c = spot_one f.spot g.spot in
-      breach_one b c e (omega (arith, f.lowest c.privilege (rw e g.breach), g.lowest b.privilege (rw (← e) f.breach)))
+      breach_one b c e (omega (arith, f.lowest c.privilege (subst (λ (s : Spot). IsBreach ws marks s c.privilege) (sym e) g.breach), g.lowest b.privilege (subst (λ (s : Spot). IsBreach ws marks s b.privilege) e f.breach)))
       (many_one f.count (rw e g.count))
       (chain_at_one f.chain (rw e g.chain))
 
