@@ -29,7 +29,7 @@ returns-then-out-v c = let fits : let a = c.args in Policy a.words.now a.marks.n
 
 pub first_breach-breach-requires : goal.first_breach-breach-requires
 first_breach-breach-requires c = let fits : let a = c.args in Policy a.words.now a.marks.now × (c.check_policy-checked.result.place ≡ privileges a.words.now) = policy_fits c.if-checked-ne0.false c.check_policy-checked.ensures.answer in
-    let ordered : BottomUp c.args.words.now c.check_policy-checked.new.1.1.0 = c.check_policy-checked.ensures.up c.if-checked-ne0.false in
+    let ordered : BottomUp c.args.words.now c.check_policy-checked.new.order = c.check_policy-checked.ensures.up c.if-checked-ne0.false in
     (fits.0, ordered)
 
 pub first_privileges-requires : goal.first_privileges-requires
@@ -38,23 +38,23 @@ first_privileges-requires c = let fits : let a = c.args in Policy a.words.now a.
 
 pub complete_copy-requires : goal.complete_copy-requires
 complete_copy-requires c = let fits : let a = c.args in Policy a.words.now a.marks.now × (c.check_policy-checked.result.place ≡ privileges a.words.now) = policy_fits c.if-checked-ne0.false c.check_policy-checked.ensures.answer in
-    let ordered : BottomUp c.args.words.now c.check_policy-checked.new.1.1.0 = c.check_policy-checked.ensures.up c.if-checked-ne0.false in
-    let room : let a = c.args in privileges a.words.now ≤ length a.out.now = omega (arith, c.if-out-v.false, (fits).1) in
+    let ordered : BottomUp c.args.words.now c.check_policy-checked.new.order = c.check_policy-checked.ensures.up c.if-checked-ne0.false in
+    let room : let a = c.args in privileges a.words.now ≤ length a.out.now = omega (arith, c.if-out-v.false, fits.1) in
     let fit = fits in
     let out = c.args.out.now in
     (fit.0, ordered, c.first_privileges.ensures.each, rw sub-zero (length-take-le c.check_policy-checked.result.place out (omega (arith, room, fit.1)) ∙ fit.1 ∙ sym fit.0.fit.size))
 
 pub returns-in-None : goal.returns-in-None
 returns-in-None c = let fits : let a = c.args in Policy a.words.now a.marks.now × (c.check_policy-checked.result.place ≡ privileges a.words.now) = policy_fits c.if-checked-ne0.false c.check_policy-checked.ensures.answer in
-    let room : let a = c.args in privileges a.words.now ≤ length a.out.now = omega (arith, c.if-out-v.false, (fits).1) in
+    let room : let a = c.args in privileges a.words.now ≤ length a.out.now = omega (arith, c.if-out-v.false, fits.1) in
     let fit = fits in
     given fit.0 room
     (completed_least fit.0 c.complete_copy.ensures (verdict_clean _ _ c.first_breach-breach.ensures c.in-None.is))
     c.refused-in-None.ensures
-    (ap (λ (k : ℕ). c.complete_copy.new.1.1.1.1.0 ++ drop k c.args.out.now) (sub-zero _ ∙ fit.1))
+    (ap (λ (k : ℕ). c.complete_copy.new.m ++ drop k c.args.out.now) (sub-zero _ ∙ fit.1))
 
 pub returns : goal.returns
 returns c = let fits : let a = c.args in Policy a.words.now a.marks.now × (c.check_policy-checked.result.place ≡ privileges a.words.now) = policy_fits c.if-checked-ne0.false c.check_policy-checked.ensures.answer in
-    let room : let a = c.args in privileges a.words.now ≤ length a.out.now = omega (arith, c.if-out-v.false, (fits).1) in
-    let first = verdict_broken _ _ c.first_breach-breach.ensures c.in_default.not-TODO in
+    let room : let a = c.args in privileges a.words.now ≤ length a.out.now = omega (arith, c.if-out-v.false, fits.1) in
+    let first = verdict_broken _ _ c.first_breach-breach.ensures c.in_default.not-None in
     none fits.0 room (broken_none first) first refl refl

@@ -12,6 +12,7 @@ use Rattle.completion.specs.Steps.Writing.{KidsOpened}
 use Rattle.completion.proofs.Openings.{kids_none}
 use Rattle.completion.proofs.Passing.{star_own, exchange_room, star_passes, star_kids, kids_small, visit_end, visit_fits}
 use Rattle.completion.proofs.pass.complete_star.Goals as goal
+use Rattle.completion.proofs.pass.complete_star.Goals.{then-is_renewed, else-is_renewed}
 
 pub numbers_at-n-requires : goal.numbers_at-n-requires
 numbers_at-n-requires c = let visit = c.requires.0 in (visit.policy.accepted, visit.type, visit.first_is)
@@ -46,7 +47,11 @@ write_range-requires c = let visit = c.requires.0 in
 
 pub returns : goal.returns
 returns c = let numbered : let a = c.args in NumberedAs a.words.now a.x c.numbers_at-n.result = c.numbers_at-n.ensures in
-    let opened : let a = c.args in KidsOpened (PassesOn a.words.now (Allowed a.m.now) a.x) (children_at a.words.now a.x) a.opened.now c.if-is_renewed.opened = let pre = c.requires in ⊎_elim (λ w. rw w.4 (star_kids pre.0.policy.accepted pre.2 (renewed_out (numbered) pre.2 (told_yes c.is_renewed.result c.is_renewed.ensures w.0.taken)) (rw w.2.ensures at w.3.ensures))) (λ w. rw w.1 (kids_none pre.0.size (λ i l g. told_no c.is_renewed.result c.is_renewed.ensures w.0.left (renewed_into (numbered) (star_passes pre.1 pre.2 g))))) c.if-is_renewed.branch in
+    let opened : let a = c.args in KidsOpened (PassesOn a.words.now (Allowed a.m.now) a.x) (children_at a.words.now a.x) a.opened.now c.if-is_renewed.opened = let pre = c.requires in
+      elim c.if-is_renewed.branch [
+        then-is_renewed w ↦ rw w.opened-is (star_kids pre.0.policy.accepted pre.2 (renewed_out numbered pre.2 (told_yes c.is_renewed.result c.is_renewed.ensures w.if-is_renewed.true)) (rw w.children.ensures at w.open_all.ensures))
+      | else-is_renewed w ↦ rw w.opened-is (kids_none pre.0.size (λ i l g. told_no c.is_renewed.result c.is_renewed.ensures w.if-is_renewed.false (renewed_into numbered (star_passes pre.1 pre.2 g))))
+      ] in
     let pre = c.requires in
     record {
       kids = opened;

@@ -17,10 +17,10 @@ use Rattle.completion.proofs.Passing.{plain_own, plain_passes, visit_end, visit_
 use Rattle.completion.proofs.pass.complete_type.Goals as goal
 
 -- the last arm's rule is neither a star nor a choice
-no_tag : {t : ℕ} → 2 < t → (t ≡ 0) ⊎ (t ≡ 1) ⊎ (t ≡ 2) → ⊥
-no_tag l (inl e) = omega arith
-no_tag l (inr (inl e)) = omega arith
-no_tag l (inr (inr e)) = omega arith
+plain : {here rule : Rule} → here ≡ rule → (rule ≡ Empty) ⊎ (rule ≡ Text) ⊎ ((f : ℕ) × (n : ℕ) × rule ≡ Sequence f n) → (kind_in here ≢ 3) × (kind_in here ≢ 4)
+plain e (inl r) = let k = ap kind_in (e ∙ r) in (λ q. omega arith, λ q. omega arith)
+plain e (inr (inl r)) = let k = ap kind_in (e ∙ r) in (λ q. omega arith, λ q. omega arith)
+plain e (inr (inr s)) = let k = ap kind_in (e ∙ s.2) in (λ q. omega arith, λ q. omega arith)
 
 pub bounds-opened-x : goal.bounds-opened-x
 bounds-opened-x c = omega (arith, c.requires.type, (facts c.requires.policy.accepted).few)
@@ -34,14 +34,14 @@ rule_at-rule-requires c = let visit = c.requires in has_record visit.policy.acce
 pub complete_choice-requires : goal.complete_choice-requires
 complete_choice-requires c = let shut : let a = c.args in ¬ Opened a.words.now (Allowed a.m.now) a.x = told_no (is_open c.args.opened.now c.args.x) c.requires.told (ne_eqb _ 1 c.if-opened-x-eq1.false) in
     let kind_here : ℕ = let a = c.args in kind_in (rule_at a.words.now a.x) in
-    let kind : {r : Rule} → c.rule_at-rule.result ≡ r → kind_here ≡ kind_in r = λ e. ap kind_in (sym c.rule_at-rule.ensures.is ∙ e) in
-    (c.requires, shut, record { type = c.requires.type; kind_is = kind c.in-Choice.is })
+    let kind : (r : Rule) → c.rule_at-rule.result ≡ r → kind_here ≡ kind_in r = λ r e. ap kind_in (sym c.rule_at-rule.ensures.is ∙ e) in
+    (c.requires, shut, record { type = c.requires.type; kind_is = kind _ c.in-Choice.is })
 
 pub complete_star-requires : goal.complete_star-requires
 complete_star-requires c = let shut : let a = c.args in ¬ Opened a.words.now (Allowed a.m.now) a.x = told_no (is_open c.args.opened.now c.args.x) c.requires.told (ne_eqb _ 1 c.if-opened-x-eq1.false) in
     let kind_here : ℕ = let a = c.args in kind_in (rule_at a.words.now a.x) in
-    let kind : {r : Rule} → c.rule_at-rule.result ≡ r → kind_here ≡ kind_in r = λ e. ap kind_in (sym c.rule_at-rule.ensures.is ∙ e) in
-    (c.requires, shut, record { type = c.requires.type; kind_is = kind c.in-Star.is })
+    let kind : (r : Rule) → c.rule_at-rule.result ≡ r → kind_here ≡ kind_in r = λ r e. ap kind_in (sym c.rule_at-rule.ensures.is ∙ e) in
+    (c.requires, shut, record { type = c.requires.type; kind_is = kind _ c.in-Star.is })
 
 pub privileges_at-requires : goal.privileges_at-requires
 privileges_at-requires c = let visit = c.requires in has_record visit.policy.accepted visit.type
@@ -53,11 +53,10 @@ pub write_range-requires : goal.write_range-requires
 write_range-requires c = visit_end c.requires c.privileges_at.ensures.is
 
 pub returns-in-Empty : goal.returns-in-Empty
-returns-in-Empty c = let kind_here : ℕ = let a = c.args in kind_in (rule_at a.words.now a.x) in
-    let kind : {r : Rule} → c.rule_at-rule.result ≡ r → kind_here ≡ kind_in r = λ e. ap kind_in (sym c.rule_at-rule.ensures.is ∙ e) in
-    let plain : (kind_here ≢ 3) × (kind_here ≢ 4) = go c.rule_at-rule.result refl where go : (r : Rule) → c.rule_at-rule.result ≡ r → (kind_here ≢ 3) × (kind_here ≢ 4) go Empty e = let k = kind e in (λ q. omega arith, λ q. omega arith) go Text e = let k = kind e in (λ q. omega arith, λ q. omega arith) go (Sequence f n) e = let k = kind e in (λ q. omega arith, λ q. omega arith) go (Choice f n) e = absurd (no_tag {t = 3} (omega arith) (rw e at c.in-Empty.in-Empty-own.keys3)) go (Star f n) e = absurd (no_tag {t = 4} (omega arith) (rw e at c.in-Empty.in-Empty-own.keys3)) in
-    let shut : let a = c.args in ¬ Opened a.words.now (Allowed a.m.now) a.x = told_no (is_open c.args.opened.now c.args.x) c.requires.told (ne_eqb _ 1 c.if-opened-x-eq1.false) in
-    let neither = plain in
+returns-in-Empty c =
+    let a = c.args in
+    let neither = plain (sym c.rule_at-rule.ensures.is) c.in-Empty.is in
+    let shut : ¬ Opened a.words.now (Allowed a.m.now) a.x = told_no (is_open c.args.opened.now c.args.x) c.requires.told (ne_eqb _ 1 c.if-opened-x-eq1.false) in
     record {
       kids = kids_none c.requires.size (λ i l. plain_passes shut neither.0 neither.1);
       own = plain_own c.requires shut neither.0 neither.1 c.privileges_at.ensures.is c.write_range.ensures;

@@ -9,6 +9,7 @@ use lib.ListN.{length, get_or}
 use Rattle.policy.specs.Steps.Writing.{allow}
 use Rattle.policy.proofs.Writings.{decide_mark, range_start, range_more, range_end}
 use Rattle.completion.proofs.write.write_range.Goals as goal
+use Rattle.completion.proofs.write.write_range.Goals.{then-all, else-all}
 
 pub loop-p-init : goal.loop-p-init
 loop-p-init c = (range_start, search rules, λ l. l, λ l. refl)
@@ -30,9 +31,10 @@ loop-p-preserved c = let room : c.loop-p.p < length c.loop-p.m = omega (arith, c
     let kept : get_or c.loop-p.m c.loop-p.p 0 ≡ get_or c.args.m.now c.loop-p.p 0 = c.loop-p.invariant.0.rest c.loop-p.p (inr (omega arith)) in
     let s = c.loop-p.invariant in
     let l = c.loop-p-test.true in (
-      ⊎_elim (λ w. rw w.1 (range_more s.0 s.1 room (allow (inl w.0.taken) refl)))
-          (λ w. rw w.3 (range_more s.0 s.1 room (rw (w.2.ensures, kept) (decide_mark _ w.0.left))))
-          c.if-all.branch,
+      elim c.if-all.branch [
+        then-all w ↦ rw w.m-is (range_more s.0 s.1 room (allow (inl w.if-all.true) refl))
+      | else-all w ↦ rw w.m-is (range_more s.0 s.1 room (rw (w.decided.ensures, kept) (decide_mark _ w.if-all.false)))
+      ],
       omega arith,
       λ h. omega arith,
       λ h. omega (arith, s.3 h),

@@ -18,7 +18,7 @@ bounds-proposed-p c = omega (arith, c.loop-p-test.true, c.requires.1)
 
 pub loop-p-preserved : goal.loop-p-preserved
 loop-p-preserved c = let args = c.args in
-    (search rules, tells_all_more (Kept args.marks.now args.proposed.now) c.loop-p.p c.loop-p.auto _ c.loop-p.invariant.1 c.is_kept-kept.ensures)
+    (search rules, tells_all_more (Kept args.marks.now args.proposed.now) c.loop-p.p c.loop-p.kept _ c.loop-p.invariant.1 c.is_kept-kept.ensures)
 
 pub returns : goal.returns
 returns c = let end : c.loop-p.p ≡ c.args.v = omega (arith, c.loop-p.invariant.0, c.loop-p-test.false) in

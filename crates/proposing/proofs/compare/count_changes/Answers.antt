@@ -6,6 +6,7 @@ use native.Mathlib.Omega.{arith}
 use mathlib.Core.Logic.{⊎_elim}
 use mathlib.Core.Path.{◌≡◌}
 use Rattle.proposing.proofs.compare.count_changes.Goals as goal
+use Rattle.proposing.proofs.compare.count_changes.Goals.{then-proposed-p, else-proposed-p}
 
 pub loop-p-init : goal.loop-p-init
 loop-p-init c = (search rules, none, search rules)
@@ -24,10 +25,10 @@ loop-p-smaller c = omega arith
 
 pub loop-p-preserved : goal.loop-p-preserved
 loop-p-preserved c = let h = c.loop-p.invariant.1 in
-    ⊎_elim
-    (λ w. (search rules, rw w.1 (many_next h w.0.taken), omega (arith, w.1, c.loop-p.invariant.2)))
-    (λ w. (search rules, rw w.1 (many_skip h (λ d. d w.0.left)), omega (arith, w.1, c.loop-p.invariant.2)))
-    c.if-proposed-p.branch
+    elim c.if-proposed-p.branch [
+      then-proposed-p w ↦ (search rules, rw w.count-is (many_next h w.if-proposed-p.true), omega (arith, w.count-is, c.loop-p.invariant.2))
+    | else-proposed-p w ↦ (search rules, rw w.count-is (many_skip h (λ d. d w.if-proposed-p.false)), omega (arith, w.count-is, c.loop-p.invariant.2))
+    ]
 
 pub overflow_cast-result : goal.overflow_cast-result
 overflow_cast-result c = omega (arith, c.loop-p.invariant.2, c.loop-p.invariant.0, c.requires.2)
