@@ -4,7 +4,7 @@ use Prim.Native.Nat.{ℕ, ◌-◌, ◌<◌}
 use Rattle.mending.proofs.taking.lowest_lead.Given as goal
 
 abbrev pub invariant-loop-n : goal.invariant-loop-n
-invariant-loop-n l = (l : ℕ) → l < l.k → ¬ LeadsIn l.marks l.n l.square l.i l.j l
+invariant-loop-n loop = (l : ℕ) → l < loop.k → ¬ LeadsIn loop.marks loop.n loop.square loop.i loop.j l
 
 abbrev pub decreases-loop-n : goal.decreases-loop-n
 decreases-loop-n l = l.n.count - l.k

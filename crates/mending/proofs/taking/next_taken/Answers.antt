@@ -40,5 +40,13 @@ returns-in-Cycle c = let p = c.requires in
 pub lowest_lead-requires-2 : goal.lowest_lead-requires-2
 lowest_lead-requires-2 c = let p = c.requires in
     let n = p.0.numbered in
-    let r = choice_reached p.0 c.breach_in-spot.ensures c.in_default.not-TODO p.1 in
+    let r = choice_reached p.0 c.breach_in-spot.ensures c.in_default.not-None p.1 in
     (numbered_small n, omega (arith, reached_to r, n.count, n.few), some_lead n p.1 p.2 r, p.3.steps)
+
+pub returns : goal.returns
+returns c = let p = c.requires in
+    let d : c.breach_in-spot.result.condition ≢ None = c.in_default.not-None in
+    let r = choice_reached p.0 c.breach_in-spot.ensures d p.1 in (
+      c.lowest_lead-2.ensures.leads.step,
+      choice_next p.0 c.breach_in-spot.ensures d p.1 (lowest_out p.0.numbered p.1 p.2 (reached_to r) c.lowest_lead-2.ensures),
+    )

@@ -18,11 +18,11 @@ returns-in-None c = next_none c.requires.0 c.star_breach-spot.ensures c.in-None.
 pub returns-then-both_allowed : goal.returns-then-both_allowed
 returns-then-both_allowed c = let p = c.requires in
     let n = p.0.numbered in
-    star_next p.0 c.star_breach-spot.ensures c.in_default.not-TODO p.1
+    star_next p.0 c.star_breach-spot.ensures c.in_default.not-None p.1
     (delete (both_out n (told_yes c.both_allowed.result c.both_allowed.ensures c.if-both_allowed.true)) (c.deletion.ensures ∙ delete_in_lem n))
 
 pub returns : goal.returns
 returns c = let p = c.requires in
     let n = p.0.numbered in
-    star_next p.0 c.star_breach-spot.ensures c.in_default.not-TODO p.1
+    star_next p.0 c.star_breach-spot.ensures c.in_default.not-None p.1
     (exchange (λ b. told_no c.both_allowed.result c.both_allowed.ensures c.if-both_allowed.false (both_into n b)) (c.exchange.ensures ∙ exchange_in_lem n))
