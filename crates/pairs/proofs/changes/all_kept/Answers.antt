@@ -26,9 +26,9 @@ bounds-proposed_forbidden-k c = omega (arith, c.loop-k-test.true, c.requires.2)
 pub loop-k-preserved : goal.loop-k-preserved
 loop-k-preserved c = let a = c.args in
     let old = maps a.allowed.now a.forbidden.now in
-    let new = maps a.proposed-allowed.now a.proposed-forbidden.now in (
+    let new = maps a.proposed_allowed.now a.proposed_forbidden.now in (
       search rules,
-      tells_all_more (λ (i : ℕ). (j : ℕ) → j < 8 → ¬ OtherAt old new i j) c.loop-k.k c.loop-k.auto _ c.loop-k.invariant.1
+      tells_all_more (λ (i : ℕ). (j : ℕ) → j < 8 → ¬ OtherAt old new i j) c.loop-k.k c.loop-k.kept _ c.loop-k.invariant.1
           (picked_none c.other_changes-other.ensures),
     )
 

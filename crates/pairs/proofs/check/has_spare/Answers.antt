@@ -10,4 +10,4 @@ returns-then-own-eq0 c = spare_whole c.requires.0 c.if-own-eq0.true
 
 pub returns : goal.returns
 returns c = let map = c.args.map.now in
-    tells_ne_as _ _ 0 (spare_into {map = map} c.requires.0 (omega (arith, c.shared_slice_known-1.given (c.args.v / 8)))) (spare_out {map = map} c.requires.0)
+    tells_ne_as _ _ 0 (spare_into {map = map} c.requires.0 (omega (arith, c.type_inv.map (c.args.v / 8)))) (spare_out {map = map} c.requires.0)
