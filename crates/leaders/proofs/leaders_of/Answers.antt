@@ -1,6 +1,5 @@
 -- The loop has the leaders of the privileges passed, and the bar that the next must reach. Assumes nothing.
 use borrow.Author.Rules.{rules}
-use mathlib.Core.Logic.{⊎_elim}
 use mathlib.Core.Path.{◌≡◌, ◌∙◌}
 use native.Mathlib.Omega.{arith}
 use lib.ListN.{length}
@@ -21,8 +20,8 @@ pub loop-p-preserved : goal.loop-p-preserved
 loop-p-preserved c = let compared : c.wide.result ≡ often_of c.args.counts.now c.loop-p.p = c.wide.ensures ∙ c.often_at.ensures in
     let often = compared in
     elim c.if-bar-wide.branch [
-      then-bar-wide w ↦ (search rules, rw w.at-is w.entered-next.ensures, rw (w.at-is, w.bar-is) w.bar_at-bar.ensures)
-    | else-bar-wide w ↦ (search rules, rw w.at-is (leaders_stay c.loop-p.invariant.2 c.loop-p.invariant.1 (omega (arith, w.if-bar-wide.false, often))), rw (w.at-is, w.bar-is) (bar_stays c.loop-p.invariant.2 (omega (arith, w.if-bar-wide.false, often))))
+      | then-bar-wide w ↦ (search rules, rw w.at-is w.entered-next.ensures, rw (w.at-is, w.bar-is) w.bar_at-bar.ensures)
+      | else-bar-wide w ↦ (search rules, rw w.at-is (leaders_stay c.loop-p.invariant.2 c.loop-p.invariant.1 (omega (arith, w.if-bar-wide.false, often))), rw (w.at-is, w.bar-is) (bar_stays c.loop-p.invariant.2 (omega (arith, w.if-bar-wide.false, often))))
     ]
 
 pub returns : goal.returns
