@@ -1,4 +1,4 @@
-// From a text of the grammar to the code of its declarations. Contracts cite specs/steps.
+// From a text of the grammar to the code of its declarations. Contracts cite specs/Steps.
 #![tactic(auto)]
 
 ghost use Rattle.std.specs.Prelude.{suc, ◌≤◌, ◌<◌, min, ◌≡◌, length};

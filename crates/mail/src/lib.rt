@@ -1,4 +1,4 @@
-// A listing people can mail: writing one of marks, and reading one into marks, by DTD text and a format. Contracts cite specs/Answers, and specs/steps/Opened for
+// A listing people can mail: writing one of marks, and reading one into marks, by DTD text and a format. Contracts cite specs/Answers, and specs/Steps/Opened for
 // the parts.
 #![tactic(auto)]
 

@@ -1,4 +1,4 @@
-// Reading the lines of a listing. Contracts cite specs/steps/Reading.
+// Reading the lines of a listing. Contracts cite specs/Steps/Reading.
 #![tactic(auto)]
 
 ghost use Rattle.std.specs.Prelude.{ℕ, ◌≡◌, length, get_or};

@@ -1,4 +1,4 @@
-// Scanning DTD text: where it stops being the grammar, or passes a limit. Contracts cite specs/steps.
+// Scanning DTD text: where it stops being the grammar, or passes a limit. Contracts cite specs/Steps.
 #![tactic(auto)]
 
 ghost use Rattle.scan.specs.Steps.Scanned.{Scanned};

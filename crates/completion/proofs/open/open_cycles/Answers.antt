@@ -1,8 +1,7 @@
 -- The loop has opened the children up to i that are on a cycle. Assumes nothing.
 use Prim.Native.Nat.{ℕ, ◌<◌}
 use mathlib.Core.Path.{◌≡◌, sym, ◌∙◌}
-use mathlib.Core.Logic.{⊎_elim}
-use mathlib.Core.Bool.{true, true≢false}
+use mathlib.Core.Bool.{true≢false}
 use native.Mathlib.Omega.{arith}
 use lib.ListN.{get_or}
 use Rattle.completion.proofs.Openings.{open_start, open_mark, open_pass, open_end}
@@ -19,8 +18,8 @@ bounds-opened-word_at c = let small : (r : ℕ) → r ≡ get_or c.args.kids.now
 pub loop-i-preserved : goal.loop-i-preserved
 loop-i-preserved c = let small : (r : ℕ) → r ≡ get_or c.args.kids.now c.loop-i.i 0 → r < 256 = λ r e. omega (arith, e, c.requires.2 c.loop-i.i c.loop-i-test.true) in
     elim c.if-leads.branch [
-      then-leads w ↦ rw w.opened-is (open_mark c.loop-i.invariant c.loop-i-test.true w.word_at.result w.word_at.ensures.is (small _ w.word_at.ensures.is) (sym c.leads.ensures ∙ w.if-leads.true))
-    | else-leads w ↦ rw w.opened-is (open_pass c.loop-i.invariant c.loop-i-test.true (λ e. true≢false (sym e ∙ sym c.leads.ensures ∙ w.if-leads.false)))
+      | then-leads w ↦ rw w.opened-is (open_mark c.loop-i.invariant c.loop-i-test.true w.word_at.result w.word_at.ensures.is (small _ w.word_at.ensures.is) (sym c.leads.ensures ∙ w.if-leads.true))
+      | else-leads w ↦ rw w.opened-is (open_pass c.loop-i.invariant c.loop-i-test.true (λ e. true≢false (sym e ∙ sym c.leads.ensures ∙ w.if-leads.false)))
     ]
 
 pub returns : goal.returns

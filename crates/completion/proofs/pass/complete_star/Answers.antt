@@ -1,5 +1,4 @@
 -- What is granted of a star that is not opened is what is allowed, and its child is opened where both its marks are. Assumes nothing.
-use mathlib.Core.Logic.{⊎_elim}
 use native.Mathlib.Omega.{arith}
 use Rattle.table.specs.Rule.{children_at}
 use Rattle.table.specs.Steps.Numbering.{NumberedAs}
@@ -48,10 +47,10 @@ write_range-requires c = let visit = c.requires.0 in
 pub returns : goal.returns
 returns c = let numbered : let a = c.args in NumberedAs a.words.now a.x c.numbers_at-n.result = c.numbers_at-n.ensures in
     let opened : let a = c.args in KidsOpened (PassesOn a.words.now (Allowed a.m.now) a.x) (children_at a.words.now a.x) a.opened.now c.if-is_renewed.opened = let pre = c.requires in
-      elim c.if-is_renewed.branch [
-        then-is_renewed w ↦ rw w.opened-is (star_kids pre.0.policy.accepted pre.2 (renewed_out numbered pre.2 (told_yes c.is_renewed.result c.is_renewed.ensures w.if-is_renewed.true)) (rw w.children.ensures at w.open_all.ensures))
+    elim c.if-is_renewed.branch [
+      | then-is_renewed w ↦ rw w.opened-is (star_kids pre.0.policy.accepted pre.2 (renewed_out numbered pre.2 (told_yes c.is_renewed.result c.is_renewed.ensures w.if-is_renewed.true)) (rw w.children.ensures at w.open_all.ensures))
       | else-is_renewed w ↦ rw w.opened-is (kids_none pre.0.size (λ i l g. told_no c.is_renewed.result c.is_renewed.ensures w.if-is_renewed.false (renewed_into numbered (star_passes pre.1 pre.2 g))))
-      ] in
+    ] in
     let pre = c.requires in
     record {
       kids = opened;

@@ -1,12 +1,12 @@
 -- By the type's flag, and then by the cases of its rule. Assumes nothing.
-use Prim.Native.Nat.{ℕ, ◌<◌}
-use mathlib.Core.Path.{◌≡◌, refl, sym, ap, ◌∙◌}
+use Prim.Native.Nat.{ℕ}
+use mathlib.Core.Path.{◌≡◌, sym, ap, ◌∙◌}
 use mathlib.Core.Logic.{◌≢◌, ◌⊎◌, inl, inr}
 use native.Mathlib.Omega.{arith}
 use borrow.Author.Tests.{eq-eqb, ne_eqb}
 use Rattle.table.specs.Rule.{rule_at, kind_in}
 use Rattle.table.specs.declared.rule.Rule.{Rule}
-use Rattle.table.specs.declared.rule.Rule.TheVariants.{Empty, Text, Sequence, Choice, Star}
+use Rattle.table.specs.declared.rule.Rule.TheVariants.{Empty, Text, Sequence}
 use Rattle.table.proofs.Facts.{facts, has_record}
 use Rattle.table.proofs.Lowest.{told_yes, told_no}
 use Rattle.policy.specs.Marks.{Allowed}

@@ -1,8 +1,7 @@
 -- The loop has decided the marks up to p. Assumes nothing.
 use Prim.Native.Nat.{◌<◌}
 use mathlib.Core.Path.{◌≡◌, refl}
-use mathlib.Core.Logic.{inl, inr, ⊎_elim}
-use mathlib.Core.Bool.{true}
+use mathlib.Core.Logic.{inl, inr}
 use native.Mathlib.Omega.{arith}
 use borrow.Author.Rules.{rules}
 use lib.ListN.{length, get_or}
@@ -32,8 +31,8 @@ loop-p-preserved c = let room : c.loop-p.p < length c.loop-p.m = omega (arith, c
     let s = c.loop-p.invariant in
     let l = c.loop-p-test.true in (
       elim c.if-all.branch [
-        then-all w ↦ rw w.m-is (range_more s.0 s.1 room (allow (inl w.if-all.true) refl))
-      | else-all w ↦ rw w.m-is (range_more s.0 s.1 room (rw (w.decided.ensures, kept) (decide_mark _ w.if-all.false)))
+        | then-all w ↦ rw w.m-is (range_more s.0 s.1 room (allow (inl w.if-all.true) refl))
+        | else-all w ↦ rw w.m-is (range_more s.0 s.1 room (rw (w.decided.ensures, kept) (decide_mark _ w.if-all.false)))
       ],
       omega arith,
       λ h. omega arith,

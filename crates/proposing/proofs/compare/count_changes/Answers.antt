@@ -3,7 +3,6 @@ use borrow.Author.Rules.{rules}
 use Rattle.table.specs.HowMany.{none}
 use Rattle.table.proofs.HowMany.{many_next, many_skip}
 use native.Mathlib.Omega.{arith}
-use mathlib.Core.Logic.{⊎_elim}
 use mathlib.Core.Path.{◌≡◌}
 use Rattle.proposing.proofs.compare.count_changes.Goals as goal
 use Rattle.proposing.proofs.compare.count_changes.Goals.{then-proposed-p, else-proposed-p}
@@ -26,8 +25,8 @@ loop-p-smaller c = omega arith
 pub loop-p-preserved : goal.loop-p-preserved
 loop-p-preserved c = let h = c.loop-p.invariant.1 in
     elim c.if-proposed-p.branch [
-      then-proposed-p w ↦ (search rules, rw w.count-is (many_next h w.if-proposed-p.true), omega (arith, w.count-is, c.loop-p.invariant.2))
-    | else-proposed-p w ↦ (search rules, rw w.count-is (many_skip h (λ d. d w.if-proposed-p.false)), omega (arith, w.count-is, c.loop-p.invariant.2))
+      | then-proposed-p w ↦ (search rules, rw w.count-is (many_next h w.if-proposed-p.true), omega (arith, w.count-is, c.loop-p.invariant.2))
+      | else-proposed-p w ↦ (search rules, rw w.count-is (many_skip h (λ d. d w.if-proposed-p.false)), omega (arith, w.count-is, c.loop-p.invariant.2))
     ]
 
 pub overflow_cast-result : goal.overflow_cast-result
