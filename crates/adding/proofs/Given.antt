@@ -1,5 +1,5 @@
 -- Two sheets that can be added, and their sum as it is answered. Assumes nothing.
-use Prim.Native.Nat.{ℕ, ◌-◌, ◌*◌, ◌/◌}
+use Prim.Native.Nat.{ℕ, ◌*◌, ◌/◌}
 use mathlib.Core.Path.{◌≡◌, refl}
 use mathlib.Core.Logic.{◌≢◌}
 use mathlib.Core.List.{List}
@@ -38,4 +38,4 @@ module _ {ws : List ℕ} {s : Sheet} {counts : List ℕ} {t : Sheet} {more : Lis
   }))
     where
       third : length (take n after) / 3 ≡ privileges ws
-      third = let own = length-take-le n after (omega (arith, c.whole.own_val, a.kept.size)) in omega (arith, own)
+      third = let own = length-take-le n after (omega (arith, c.whole.own, a.kept.size)) in omega (arith, own)

@@ -1,5 +1,7 @@
 // Adding two sheets over one table, so that roles can be counted in parts. Contracts cite specs/Sums and specs/Answers, and specs/Steps/Checking for
 // the parts.
+#![tactic(auto)]
+
 ghost use Rattle.std.specs.Prelude.{◌≡◌, ℕ, ◌+◌, ◌*◌, ◌≤◌, ◌<◌, length};
 ghost use Rattle.table.specs.Steps.Found.{Lowest, Tells};
 ghost use Rattle.adding.specs.Sums.{add, CountsAdded, Held, FiguresHeld};

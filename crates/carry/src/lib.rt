@@ -1,4 +1,6 @@
 // Keeping the marks when the schema moves. Contracts cite specs/Answers and specs/Carries; specs/Steps for the parts.
+#![tactic(auto)]
+
 ghost use Rattle.carry.specs.Answers.{CarryAnswer};
 ghost use Rattle.carry.specs.Steps.Using.{MoveAnswer};
 

@@ -1,4 +1,6 @@
 // The least completions of all roles of a show at once: one table, and the marks of the roles one after another. Contracts cite specs/Answers.
+#![tactic(auto)]
+
 ghost use Rattle.std.specs.Prelude.{◌≡◌, ◌*◌, ◌≤◌, length};
 ghost use Rattle.table.specs.Check.{Accepted};
 ghost use Rattle.table.specs.Privilege.{privileges};

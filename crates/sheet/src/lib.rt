@@ -1,5 +1,7 @@
 // The monthly sheet: for many roles over one table, how many are clean, break each condition and are refused, how often each privilege is allowed,
 // forbidden and unset, and which are allowed most often. Contracts cite specs/Sheets and specs/Answers.
+#![tactic(auto)]
+
 ghost use Rattle.std.specs.Prelude.{◌≡◌};
 ghost use Rattle.sheet.specs.Answers.{no_figures, refusal, with_leaders, MonthAnswer};
 

@@ -11,4 +11,4 @@ pub returns-in-None : goal.returns-in-None
 returns-in-None c = added_unfound _ _ _ _ _ c.star_breach-spot.ensures c.in-None.is
 
 pub returns : goal.returns
-returns c = star_added _ _ _ _ c.args.known c.requires.2 (inr (star_some _ _ _ _ c.requires.2 c.star_breach-spot.ensures c.in_default.not-TODO)
+returns c = star_added _ _ _ _ c.args.known c.requires.2 (inr (star_some _ _ _ _ c.requires.2 c.star_breach-spot.ensures c.in_default.not-None))

@@ -6,4 +6,4 @@ pub returns-in-None : goal.returns-in-None
 returns-in-None c = cycle_none _ _ _ _ c.cycle_breach-spot.ensures c.in-None.is
 
 pub returns : goal.returns
-returns c = cycle_some _ _ _ _ c.cycle_breach-spot.ensures c.in_default.not-TODO
+returns c = cycle_some _ _ _ _ c.cycle_breach-spot.ensures c.in_default.not-None

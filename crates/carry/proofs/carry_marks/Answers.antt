@@ -16,19 +16,19 @@ pub returns-then-checked-ne0 : goal.returns-then-checked-ne0
 returns-then-checked-ne0 c = refused (move_refused c.if-checked-ne0.true c.check_move-checked.ensures) c.refused.ensures refl refl
 
 pub returns-then-out-v : goal.returns-then-out-v
-returns-then-out-v c = let fits : let a = c.args in Move a.old-words.now a.old-marks.now a.new-words.now a.new-numbers.now = move_fits c.if-checked-ne0.false c.check_move-checked.ensures in
-    let new_v : c.word_at-v.result ≡ privileges c.args.new-words.now = c.word_at-v.ensures.is ∙ stated (fits).accepted in
+returns-then-out-v c = let fits : let a = c.args in Move a.old_words.now a.old_marks.now a.new_words.now a.new_numbers.now = move_fits c.if-checked-ne0.false c.check_move-checked.ensures in
+    let new_v : c.word_at-v.result ≡ privileges c.args.new_words.now = c.word_at-v.ensures.is ∙ stated (fits).accepted in
     short fits (λ r. omega (arith, c.if-out-v.true, r.out_room, new_v)) c.refused-then-out-v.ensures refl refl
 
 pub returns-then-lost-w : goal.returns-then-lost-w
-returns-then-lost-w c = let fits : let a = c.args in Move a.old-words.now a.old-marks.now a.new-words.now a.new-numbers.now = move_fits c.if-checked-ne0.false c.check_move-checked.ensures in
-    let old_v : c.word_at-w.result ≡ privileges c.args.old-words.now = c.word_at-w.ensures.is ∙ stated (fits).policy.accepted in
+returns-then-lost-w c = let fits : let a = c.args in Move a.old_words.now a.old_marks.now a.new_words.now a.new_numbers.now = move_fits c.if-checked-ne0.false c.check_move-checked.ensures in
+    let old_v : c.word_at-w.result ≡ privileges c.args.old_words.now = c.word_at-w.ensures.is ∙ stated (fits).policy.accepted in
     short fits (λ r. omega (arith, c.if-lost-w.true, r.lost_room, old_v)) c.refused-then-lost-w.ensures refl refl
 
 pub carry_all-requires : goal.carry_all-requires
-carry_all-requires c = let fits : let a = c.args in Move a.old-words.now a.old-marks.now a.new-words.now a.new-numbers.now = move_fits c.if-checked-ne0.false c.check_move-checked.ensures in
-    let new_v : c.word_at-v.result ≡ privileges c.args.new-words.now = c.word_at-v.ensures.is ∙ stated (fits).accepted in
-    let old_v : c.word_at-w.result ≡ privileges c.args.old-words.now = c.word_at-w.ensures.is ∙ stated (fits).policy.accepted in
+carry_all-requires c = let fits : let a = c.args in Move a.old_words.now a.old_marks.now a.new_words.now a.new_numbers.now = move_fits c.if-checked-ne0.false c.check_move-checked.ensures in
+    let new_v : c.word_at-v.result ≡ privileges c.args.new_words.now = c.word_at-v.ensures.is ∙ stated (fits).accepted in
+    let old_v : c.word_at-w.result ≡ privileges c.args.old_words.now = c.word_at-w.ensures.is ∙ stated (fits).policy.accepted in
     let a = c.args in
     record {
       move = fits;
@@ -37,11 +37,11 @@ carry_all-requires c = let fits : let a = c.args in Move a.old-words.now a.old-m
     }
 
 pub returns : goal.returns
-returns c = let fits : let a = c.args in Move a.old-words.now a.old-marks.now a.new-words.now a.new-numbers.now = move_fits c.if-checked-ne0.false c.check_move-checked.ensures in
-    let new_v : c.word_at-v.result ≡ privileges c.args.new-words.now = c.word_at-v.ensures.is ∙ stated (fits).accepted in
-    let old_v : c.word_at-w.result ≡ privileges c.args.old-words.now = c.word_at-w.ensures.is ∙ stated (fits).policy.accepted in
-    let room : let a = c.args in Room a.old-words.now a.new-words.now a.out.now a.lost.now = record { out_room = omega (arith, c.if-out-v.false, new_v); lost_room = omega (arith, c.if-lost-w.false, old_v) } in
+returns c = let fits : let a = c.args in Move a.old_words.now a.old_marks.now a.new_words.now a.new_numbers.now = move_fits c.if-checked-ne0.false c.check_move-checked.ensures in
+    let new_v : c.word_at-v.result ≡ privileges c.args.new_words.now = c.word_at-v.ensures.is ∙ stated (fits).accepted in
+    let old_v : c.word_at-w.result ≡ privileges c.args.old_words.now = c.word_at-w.ensures.is ∙ stated (fits).policy.accepted in
+    let room : let a = c.args in Room a.old_words.now a.new_words.now a.out.now a.lost.now = record { out_room = omega (arith, c.if-out-v.false, new_v); lost_room = omega (arith, c.if-lost-w.false, old_v) } in
     let a = c.args in
     carried fits room c.carry_all.ensures c.refused-2.ensures
-    (ap (λ (k : ℕ). c.carry_all.new.1.1.1.1.0 ++ drop k a.out.now) (sub-zero _ ∙ new_v))
-    (ap (λ (k : ℕ). c.carry_all.new.1.1.1.1.1.0 ++ drop k a.lost.now) (sub-zero _ ∙ old_v))
+    (ap (λ (k : ℕ). c.carry_all.new.out ++ drop k a.out.now) (sub-zero _ ∙ new_v))
+    (ap (λ (k : ℕ). c.carry_all.new.lost ++ drop k a.lost.now) (sub-zero _ ∙ old_v))

@@ -1,6 +1,7 @@
 -- The entries of the types passed are written, and what is listed is below the last of them. Assumes nothing.
 use native.Mathlib.Omega.{arith}
-use mathlib.Core.Logic.{⊎_elim}
+use mathlib.Core.Bool.{not}
+use mathlib.Core.Path.{ap}
 use lib.ListN.{get_or}
 use Prim.Native.Nat.{◌≤◌, ◌<◌}
 use Rattle.table.specs.Words.{types}
@@ -8,6 +9,7 @@ use Rattle.table.specs.Check.{Accepted}
 use Rattle.table.proofs.Facts.{facts, has_children}
 use Rattle.editing.proofs.Writing.{writing_start, Ready, afresh, onward, writing_skip, writing_more, written_end, whole_tally, tally_small}
 use Rattle.editing.proofs.entries.write_entries.Goals as goal
+use Rattle.editing.proofs.entries.write_entries.Goals.{then-above-t-eq1, else-above-t-eq1, then-not-has_child, else-not-has_child}
 
 pub overflow_sub-last : goal.overflow_sub-last
 overflow_sub-last c = omega (arith, c.types-last.ensures.is, (facts c.requires.0.accepted).some)
@@ -45,7 +47,11 @@ pub grow-grown-requires : goal.grow-grown-requires
 grow-grown-requires c = let is_type : c.loop-k.k < types c.args.words.now = omega (arith, c.loop-k-test.true, c.types-last.ensures.is) in
     let type : get_or c.args.order.now c.loop-k.k 0 < types c.args.words.now = c.requires.1.inside _ is_type in
     let accepted : Accepted c.args.words.now = c.requires.0.accepted in
-    let ready : let a = c.args in Ready a.words.now a.marks.now c.if-not-has_child.flags c.loop-k.list c.if-not-has_child.grown (get_or a.order.now c.loop-k.k 0) = let at = c.loop-k.invariant.ready in ⊎_elim (λ w. rw (w.2, w.3) (afresh at.0.flags_are.listed.room w.1.ensures)) (λ w. rw (w.1, w.2) (onward (accepted) (type) at c.has_child.result (rw c.children.ensures at c.has_child.ensures) w.0.left)) c.if-not-has_child.branch in
+    let ready : let a = c.args in Ready a.words.now a.marks.now c.if-not-has_child.flags c.loop-k.list c.if-not-has_child.grown (get_or a.order.now c.loop-k.k 0) = let at = c.loop-k.invariant.ready in
+    elim c.if-not-has_child.branch [
+      | then-not-has_child w ↦ rw (w.flags-is, w.grown-is) (afresh at.0.flags_are.listed.room w.nothing-grown-then-not-has_child.ensures)
+      | else-not-has_child w ↦ rw (w.flags-is, w.grown-is) (onward accepted type at c.has_child.result (rw c.children.ensures at c.has_child.ensures) (ap not w.if-not-has_child.false))
+    ] in
     let pre = c.requires in
     (pre.0, pre.2, type, ready.0, ready.1)
 
@@ -70,10 +76,10 @@ pub loop-k-preserved : goal.loop-k-preserved
 loop-k-preserved c = let accepted : Accepted c.args.words.now = c.requires.0.accepted in
     let is_type : c.loop-k.k < types c.args.words.now = omega (arith, c.loop-k-test.true, c.types-last.ensures.is) in
     let at = c.loop-k.invariant in
-    ⊎_elim
-    (λ w. rw (w.11, w.12, w.13, w.14, w.15) (writing_more at c.loop-k-test.true accepted c.requires.1 is_type w.0.taken w.6.ensures w.8.ensures))
-    (λ w. rw (w.1, w.2, w.3, w.4, w.5) (writing_skip at c.loop-k-test.true w.0.left))
-    c.if-above-t-eq1.branch
+    elim c.if-above-t-eq1.branch [
+      | then-above-t-eq1 w ↦ rw (w.kept-is, w.flags-is, w.list-is, w.grown-is, w.y-is) (writing_more at c.loop-k-test.true accepted c.requires.1 is_type w.if-above-t-eq1.true w.grow-grown.ensures w.put_entry.ensures)
+      | else-above-t-eq1 w ↦ rw (w.kept-is, w.flags-is, w.list-is, w.grown-is, w.y-is) (writing_skip at c.loop-k-test.true w.if-above-t-eq1.false)
+    ]
 
 pub shape_of-kept : goal.shape_of-kept
 shape_of-kept c = omega (arith, c.loop-k.invariant.written.size)

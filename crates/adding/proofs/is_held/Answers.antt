@@ -1,17 +1,9 @@
 -- Their sum is at most 4,294,967,295. Assumes nothing.
-use borrow.Author.Rules.{rules}
 use Prim.Native.Nat.{◌+◌, ◌-◌}
 use native.Mathlib.Omega.{arith}
 use Rattle.table.proofs.Lowest.{tells_le_as}
 use Rattle.adding.specs.Sums.{Held}
-use Rattle.adding.proofs.is_held.Statement.{statement}
-use Rattle.adding.proofs.is_held.Tie as tie
+use Rattle.adding.proofs.is_held.Goals as goal
 
-sub-result : tie.Need-overflow-sub-result
-sub-result c = search rules
-
-returns : tie.Need-returns
+pub returns : goal.returns
 returns c = tells_le_as (Held (c.args.a + c.args.b)) c.args.a (4294967295 - c.args.b) (λ l. omega arith) (λ h. omega arith)
-
-pub is-held-spec : {M : Type 1} → statement M
-is-held-spec = tie.close (tie.spec sub-result returns)
