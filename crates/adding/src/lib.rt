@@ -1,4 +1,4 @@
-// Adding two sheets over one table, so that roles can be counted in parts. Contracts cite specs/Sums and specs/Answers, and specs/steps/Checking for
+// Adding two sheets over one table, so that roles can be counted in parts. Contracts cite specs/Sums and specs/Answers, and specs/Steps/Checking for
 // the parts.
 ghost use Rattle.std.specs.Prelude.{◌≡◌, ℕ, ◌+◌, ◌*◌, ◌≤◌, ◌<◌, length};
 ghost use Rattle.table.specs.Steps.Found.{Lowest, Tells};

@@ -1,5 +1,5 @@
 // Which of the three conditions a policy breaks somewhere, each asked by itself: one pass over the types, by the flags that tell below which types
-// something is forbidden. Contracts cite specs/Breaks, and specs/steps/Asking for the parts.
+// something is forbidden. Contracts cite specs/Breaks, and specs/Steps/Asking for the parts.
 ghost use Rattle.std.specs.Prelude.{◌≡◌, true, ◌≢◌, ℕ, ◌<◌, length, get_or};
 ghost use Rattle.table.specs.Words.{types};
 ghost use Rattle.table.specs.Rule.{IsChoice, IsStar, count_of};

@@ -1,5 +1,5 @@
 // Carrying the marks, type by type: those of a text, the insert and delete of a star, and the replacements. Contracts cite specs/Carries and
-// specs/steps/Moving.
+// specs/Steps/Moving.
 ghost use Rattle.std.specs.Prelude.{◌≡◌, ℕ, ◌<◌, get_or};
 ghost use Rattle.table.specs.Words.{types};
 ghost use Rattle.table.specs.Privilege.{first_privilege};

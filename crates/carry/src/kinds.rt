@@ -1,5 +1,5 @@
 // The kind of a type, and how its replacements are numbered. A star's exchange is one of them: it replaces the only child by its own kind. Contracts cite
-// specs/steps/Placing.
+// specs/Steps/Placing.
 ghost use Rattle.std.specs.Prelude.{◌≡◌, ◌<◌};
 ghost use Rattle.table.specs.Words.{types};
 ghost use Rattle.table.specs.Rule.{rule_at, kind_in};

@@ -1,4 +1,4 @@
-// Keeping the marks when the schema moves. Contracts cite specs/Answers and specs/Carries; specs/steps for the parts.
+// Keeping the marks when the schema moves. Contracts cite specs/Answers and specs/Carries; specs/Steps for the parts.
 ghost use Rattle.carry.specs.Answers.{CarryAnswer};
 ghost use Rattle.carry.specs.Steps.Using.{MoveAnswer};
 

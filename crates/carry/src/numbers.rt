@@ -1,4 +1,4 @@
-// Checking the list of new numbers. Contracts cite specs/Numbers and specs/steps/Using.
+// Checking the list of new numbers. Contracts cite specs/Numbers and specs/Steps/Using.
 ghost use Rattle.std.specs.Prelude.{◌≡◌, ◌≤◌, length};
 ghost use Rattle.table.specs.Steps.Found.{Lowest, Tells};
 ghost use Rattle.carry.specs.Numbers.{EntryFits};

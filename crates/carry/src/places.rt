@@ -1,4 +1,4 @@
-// Where the kinds of an old type stand among those of a new one. Contracts cite specs/steps/Placing.
+// Where the kinds of an old type stand among those of a new one. Contracts cite specs/Steps/Placing.
 ghost use Rattle.std.specs.Prelude.{◌≤◌};
 ghost use Rattle.carry.specs.Steps.Placing.{Place, Places};
 

@@ -1,4 +1,4 @@
-// Moving the marks of a type's replacements: of one row to another, row by row, or side by side. Contracts cite specs/steps/Placing.
+// Moving the marks of a type's replacements: of one row to another, row by row, or side by side. Contracts cite specs/Steps/Placing.
 ghost use Rattle.std.specs.Prelude.{◌≡◌, true, ◌<◌};
 ghost use Rattle.table.specs.Steps.Numbering.{Small, Positions};
 ghost use Rattle.policy.specs.Steps.Squares.{Room};

@@ -1,4 +1,6 @@
-// The chain of a breach: the fewest allowed replacements from one position to another. Contracts cite specs/Chain, and specs/steps/Ways for the parts.
+// The chain of a breach: the fewest allowed replacements from one position to another. Contracts cite specs/Chain, and specs/Steps/Ways for the parts.
+#![tactic(auto)]
+
 ghost use Rattle.std.specs.Prelude.{◌≡◌, [], ◌≤◌, length};
 ghost use Rattle.table.specs.Plus.{Plus};
 ghost use Rattle.table.specs.Rule.{IsChoice};

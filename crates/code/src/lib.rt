@@ -1,4 +1,6 @@
-// From a text of the grammar to the code of its declarations. Contracts cite specs/steps.
+// From a text of the grammar to the code of its declarations. Contracts cite specs/Steps.
+#![tactic(auto)]
+
 ghost use Rattle.std.specs.Prelude.{suc, ◌≤◌, ◌<◌, min, ◌≡◌, length};
 ghost use Rattle.names.specs.Steps.Shifting.{Shifted};
 ghost use Rattle.code.specs.Steps.Holding.{Inserts};

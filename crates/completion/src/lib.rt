@@ -1,4 +1,6 @@
 // The least completion of a policy. Contracts cite specs/Answers and specs/Completions.
+#![tactic(auto)]
+
 ghost use Rattle.completion.specs.Answers.{CompleteAnswer};
 
 mod open;

@@ -1,4 +1,4 @@
-// Opening the children of a type: a byte for each type, 1 where it is opened. Contracts cite specs/steps/Writing.
+// Opening the children of a type: a byte for each type, 1 where it is opened. Contracts cite specs/Steps/Writing.
 ghost use Rattle.std.specs.Prelude.{◌≡◌, true, ℕ, ◌≤◌, ◌<◌, length, get_or};
 ghost use Rattle.policy.specs.Steps.Squares.{marked};
 ghost use Rattle.completion.specs.Steps.Writing.{KidsOpened};

@@ -1,4 +1,4 @@
-// One pass from parents to children, in place: each type opens what it passes on, and its marks are decided. Contracts cite specs/steps/Passes.
+// One pass from parents to children, in place: each type opens what it passes on, and its marks are decided. Contracts cite specs/Steps/Passes.
 ghost use Rattle.std.specs.Prelude.{◌≡◌, length};
 ghost use Rattle.table.specs.Rule.{IsChoice, IsStar};
 ghost use Rattle.table.specs.Steps.Order.{BottomUp};

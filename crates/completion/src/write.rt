@@ -1,4 +1,4 @@
-// Writing the decided marks of a type by their own, and the exchange of a star. Contracts cite specs/steps/Writing.
+// Writing the decided marks of a type by their own, and the exchange of a star. Contracts cite specs/Steps/Writing.
 ghost use Rattle.std.specs.Prelude.{◌≡◌, true, ◌⊎◌, ◌≤◌, ◌<◌, length};
 ghost use Rattle.table.specs.Steps.Numbering.{exchange_in, ExchangeableIn};
 ghost use Rattle.policy.specs.Marks.{Allowed};

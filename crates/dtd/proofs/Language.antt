@@ -7,7 +7,7 @@ use native.Mathlib.Omega.{arith}
 use lib.ListN.{length, drop, take-append-drop}
 use Rattle.grammar.specs.Bytes.{ascii, Literal, done, byte}
 use Rattle.grammar.specs.Tree.{Content, Declaration, Nth, first, later}
-use Rattle.grammar.specs.Grammar.{Spec, spec_empty, spec_any, spec_text, spec_starred, spec_mixed, spec_children, element, Items, a_space, a_comment, a_declaration}
+use Rattle.grammar.specs.Grammar.{Spec, spec_empty, spec_any, spec_text, spec_starred, spec_mixed, spec_children, element, Items, no_more, a_space, a_comment, a_declaration}
 use Rattle.grammar.specs.Limits.{Holds, any_content, mixed_content}
 use Rattle.model.specs.Languages.{Plain, plain_empty, plain_text, plain_children, SameLanguage}
 use Rattle.model.specs.Tables as tables
@@ -41,6 +41,7 @@ module _ {t : List ℕ} {d : Declaration} {ds : List Declaration} (n : Named t d
 
   plain_items : {a i : ℕ} {es : List Declaration} {e : Declaration} → Items t a es
       → ((f : Declaration) (j : ℕ) → Nth es j f → (k : ℕ) × Nth (d ∷ ds) k f) → Nth es i e → Plain e.content
+  plain_items (no_more q) f h = elim h [ ]
   plain_items (a_space o r) f h = plain_items r f h
   plain_items (a_comment c r) f h = plain_items r f h
   plain_items (a_declaration {d = e} (element l s m p u x v g) r) f first = plain_spec (f e 0 first).1 refl x

@@ -13,7 +13,7 @@ use Rattle.grammar.specs.Stops.{Begins, Stops}
 use Rattle.table.specs.declared.Found.{Found}
 use Rattle.table.specs.declared.Found.TheVariants.{At, Nothing}
 use Rattle.scan.specs.declared.Step.{Step}
-use Rattle.grammar.specs.Limits.{DeepAt, DeepIn, Holds, deep_group, long_text}
+use Rattle.grammar.specs.Limits.{DeepAt, DeepIn, deep_group, long_text}
 use Rattle.grammar.proofs.OneTree.{one_tree}
 use Rattle.grammar.proofs.Stopping.{le_or_lt, text_no_stop, over_within}
 use Rattle.model.specs.Tables.{rules_of, kids_of_all, number_of, table_of}

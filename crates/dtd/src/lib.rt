@@ -1,4 +1,6 @@
-// Reading DTD text into a table. The contracts of read_format and read_dtd cite specs/Answer; those of their passes cite specs/steps.
+// Reading DTD text into a table. The contracts of read_format and read_dtd cite specs/Answer; those of their passes cite specs/Steps.
+#![tactic(auto)]
+
 ghost use Rattle.std.specs.Prelude.{List};
 ghost use Rattle.grammar.specs.Tree.{Declaration};
 ghost use Rattle.scan.specs.Steps.Scanned.{Read};

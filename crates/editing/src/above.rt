@@ -1,5 +1,5 @@
 // Which types a privilege is below: its type, where that stands in the order, and a flag for each type that it is below. Contracts cite
-// specs/steps/Aboves.
+// specs/Steps/Aboves.
 ghost use Rattle.std.specs.Prelude.{◌≡◌, ◌<◌, get_or, replicate};
 ghost use Rattle.table.specs.Words.{types};
 ghost use Rattle.table.specs.Privilege.{Belongs, privileges};

@@ -1,5 +1,5 @@
 // The entries of the types that a privilege is below, worked out from the marks along the order of the types. Contracts cite specs/Entries, and
-// specs/steps/Writing for the parts.
+// specs/Steps/Writing for the parts.
 ghost use Rattle.std.specs.Prelude.{◌+◌, ◌-◌, ◌*◌, ◌≤◌, ◌<◌, length, replicate};
 ghost use Rattle.table.specs.Words.{types, root};
 ghost use Rattle.table.specs.Privilege.{privileges};

@@ -1,5 +1,5 @@
 // What is forbidden below a type, grown from what is forbidden below one of its children: only what comes new is walked and counted. Contracts cite
-// specs/steps/Growing.
+// specs/Steps/Growing.
 ghost use Rattle.std.specs.Prelude.{◌≡◌, ◌≤◌, ◌<◌, replicate};
 ghost use Rattle.table.specs.Words.{types};
 ghost use Rattle.table.specs.HowMany.{Tallied};

@@ -1,5 +1,5 @@
 // One mark edited without a rescan: the store keeps for each type what is forbidden below it, and a call writes one mark, the entries of the types that
-// its privilege is below, and nothing else. Contracts cite specs/Answer and specs/Entries; specs/steps for the parts.
+// its privilege is below, and nothing else. Contracts cite specs/Answer and specs/Entries; specs/Steps for the parts.
 ghost use Rattle.std.specs.Prelude.{◌≡◌, length};
 ghost use Rattle.editing.specs.Answer.{EditAnswer};
 ghost use Rattle.editing.specs.Steps.Checking.{OrderedEdit};

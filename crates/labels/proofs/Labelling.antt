@@ -13,7 +13,7 @@ use borrow.Author.Tests.{lt-ltb, le-ltb}
 use Rattle.table.proofs.Lists.{le_or_lt}
 use Rattle.grammar.specs.Bytes.{is_name_start, is_name_byte, Span, stop, go_on}
 use Rattle.grammar.specs.Tree.{Declaration, Nth, first, later}
-use Rattle.grammar.specs.Grammar.{Name, Element, element, Items, a_space, a_comment, a_declaration}
+use Rattle.grammar.specs.Grammar.{Name, Element, element, Items, no_more, a_space, a_comment, a_declaration}
 use Rattle.grammar.proofs.Pieces.{true_false}
 use Rattle.scan.proofs.Agreeing.{span_le}
 use Rattle.scan.proofs.Pieces.{span_in}
@@ -93,6 +93,7 @@ element_named : {t : List ℕ} {a b : ℕ} {d : Declaration} → Element t a b d
 element_named (element l s n p u x v g) = named_name n
 
 items_named : {t : List ℕ} {a i : ℕ} {d : Declaration} {ds : List Declaration} → Items t a ds → Nth ds i d → Named d.named
+items_named {t = t} {i = i} {d = d} (no_more {a = a} _) n = elim n [ ]
 items_named (a_space o r) n = items_named r n
 items_named (a_comment c r) n = items_named r n
 items_named (a_declaration x r) first = element_named x

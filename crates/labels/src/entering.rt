@@ -1,5 +1,5 @@
 // Entering the labels one by one, each behind those so far. Functions take every text; what does not fit is left out. Contracts cite
-// specs/steps/Entered.
+// specs/Steps/Entered.
 ghost use Rattle.std.specs.Prelude.{◌≡◌, ◌%◌, ◌<◌, length};
 ghost use Rattle.labels.specs.Labels.{digit};
 ghost use Rattle.labels.specs.Steps.Entered.{made_label, Entered, DeclaredRead};

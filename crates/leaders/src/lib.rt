@@ -1,5 +1,7 @@
 // The privileges that are allowed most often: one pass in ascending order, in which most do not enter among the leaders. Contracts cite specs/Leaders,
-// and specs/steps/Entering for the parts.
+// and specs/Steps/Entering for the parts.
+#![tactic(auto)]
+
 ghost use Rattle.std.specs.Prelude.{◌≡◌, ◌+◌, ◌/◌, ◌≤◌, ◌<◌, min, length};
 ghost use Rattle.table.specs.Steps.Found.{Tells};
 ghost use Rattle.leaders.specs.Leaders.{LeadersOf, often_of};

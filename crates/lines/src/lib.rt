@@ -1,4 +1,4 @@
-// Text put into a lent buffer. Contracts cite specs/Text, specs/steps/Putting and crate runs.
+// Text put into a lent buffer. Contracts cite specs/Text, specs/Steps/Putting and crate runs.
 ghost use Rattle.std.specs.Prelude.{◌+◌, ◌*◌, ◌≤◌, ◌∷◌, length};
 ghost use Rattle.lines.specs.Text.{raised, decimal, numbers, marks_text, line};
 ghost use Rattle.runs.specs.Putting.{Puts};

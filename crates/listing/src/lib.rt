@@ -1,1 +1,3 @@
+#![tactic(auto)]
+
 // What a line and a listing are, and what can be wrong with one: definitions and their laws, no code.

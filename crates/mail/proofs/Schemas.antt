@@ -1,5 +1,5 @@
 -- What a schema gives: names of at most 32 bytes, and labels that can be told apart. Assumes nothing.
-use Prim.Native.Nat.{ℕ, suc, ◌+◌, ◌-◌, ◌≤◌, ◌<◌}
+use Prim.Native.Nat.{ℕ, suc, ◌+◌, ◌≤◌, ◌<◌}
 use mathlib.Core.Path.{refl, ap}
 use mathlib.Core.Logic.{inl, inr}
 use mathlib.Core.List.{List, ◌∷◌}
@@ -7,7 +7,7 @@ use native.Mathlib.Omega.{arith}
 use lib.ListN.{length, take, drop, length-take, length-drop, take-append-drop}
 use Rattle.table.specs.Words.{types}
 use Rattle.grammar.specs.Tree.{Declaration, Nth, first, later}
-use Rattle.grammar.specs.Grammar.{element, Items, a_space, a_comment, a_declaration}
+use Rattle.grammar.specs.Grammar.{no_more, element, Items, a_space, a_comment, a_declaration}
 use Rattle.grammar.specs.Limits.{declared_name, long_name}
 use Rattle.grammar.proofs.Stopping.{le_or_lt}
 use Rattle.model.specs.Tables.{rules_of, table_of}
@@ -20,6 +20,7 @@ use Rattle.mail.specs.Answers.{Schema, labels_of}
 
 -- a declared name stands at its place, within the text
 name_within : {t : List ℕ} {a i : ℕ} {x : Declaration} {ds : List Declaration} → Items t a ds → Nth ds i x → x.place + length x.named ≤ length t
+name_within {t = t} {i = i} (no_more {a = a} _) n = elim n [ ]
 name_within (a_space o r) n = name_within r n
 name_within (a_comment c r) n = name_within r n
 name_within {t} (a_declaration (element {c = c} {d = d} l s n p u x v g) r) first =

@@ -1,5 +1,7 @@
-// A listing people can mail: writing one of marks, and reading one into marks, by DTD text and a format. Contracts cite specs/Answers, and specs/steps/Opened for
+// A listing people can mail: writing one of marks, and reading one into marks, by DTD text and a format. Contracts cite specs/Answers, and specs/Steps/Opened for
 // the parts.
+#![tactic(auto)]
+
 ghost use Rattle.std.specs.Prelude.{◌≡◌, length};
 ghost use Rattle.table.specs.Words.{format_of};
 ghost use Rattle.labels.specs.Steps.Booked.{label_in};

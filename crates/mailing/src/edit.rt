@@ -1,4 +1,4 @@
-// The edits at a type, by their number there and by what they name. Contracts cite specs/steps/Naming.
+// The edits at a type, by their number there and by what they name. Contracts cite specs/Steps/Naming.
 ghost use Rattle.std.specs.Prelude.{◌≤◌, ◌<◌};
 ghost use Rattle.table.specs.Words.{types};
 ghost use Rattle.table.specs.Rule.{IsChoice, IsStar};

@@ -1,4 +1,6 @@
-// Writing the lines of a policy. Contracts cite specs/steps/Putting, and specs/steps/Continuing for the lines of some privileges.
+// Writing the lines of a policy. Contracts cite specs/Steps/Putting, and specs/Steps/Continuing for the lines of some privileges.
+#![tactic(auto)]
+
 ghost use Rattle.std.specs.Prelude.{◌≡◌, ◌+◌, ◌*◌, ◌≤◌, ◌<◌};
 ghost use Rattle.table.specs.Words.{types};
 ghost use Rattle.table.specs.Privilege.{first_privilege, Belongs};

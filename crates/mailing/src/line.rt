@@ -1,4 +1,4 @@
-// One line, put part by part, each function at a place that is low enough for the most that it puts. Contracts cite specs/steps/Wording.
+// One line, put part by part, each function at a place that is low enough for the most that it puts. Contracts cite specs/Steps/Wording.
 ghost use Rattle.std.specs.Prelude.{◌∷◌, [], ◌+◌, ◌≤◌, ◌<◌, length};
 ghost use Rattle.runs.specs.Putting.{Fits};
 ghost use Rattle.labels.specs.Steps.Booked.{label_in};

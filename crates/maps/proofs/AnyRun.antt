@@ -1,6 +1,6 @@
 -- What completing and mending answer, and the marks that they write, are the same whatever run is lent for them; so a call over maps agrees with one on the marks
 -- that its maps spell, with any run lent to that. Assumes nothing.
-use Prim.Native.Nat.{ℕ, ◌+◌, ◌≤◌}
+use Prim.Native.Nat.{ℕ, ◌≤◌}
 use mathlib.Core.Path.{◌≡◌, sym, ap, ◌∙◌}
 use mathlib.Core.Logic.{◌≢◌}
 use mathlib.Core.List.{List, ◌++◌, append-nil}

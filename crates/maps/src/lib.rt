@@ -1,5 +1,7 @@
 // Verdict, completion, mending and judging over marks as two bit maps: they are spelled into marks, and the result's marks into maps. Contracts cite
 // specs/Answers, and specs/Maps of crate pairs.
+#![tactic(auto)]
+
 ghost use Rattle.std.specs.Prelude.{◌≡◌, List, ℕ, take};
 ghost use Rattle.table.specs.Privilege.{privileges};
 ghost use Rattle.table.specs.Steps.Order.{BottomUp};

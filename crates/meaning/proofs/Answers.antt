@@ -154,7 +154,7 @@ judged_consistent {ws} {marks} {a} one p j = (there j, back j)
     back (judged q (broken f) e) c = absurd (c (breach_imitates (breach_imitated p.accepted one up_to_order f)))
 
 -- A COMPLETION, in the coordinators' words: it allows a kind of edit exactly if somewhere people can do such an edit anyway, by edits that were set to
--- allowed. Elsewhere it may let them do more (completion-adds, in Readings), as every policy must that decides the blanks and passes. Of an edit that
+-- allowed. Elsewhere it may let them do more (completion_adds, in Readings), as every policy must that decides the blanks and passes. Of an edit that
 -- replaces an element by one of its own kind: what it allows people can do anyway, or it is idle; what they can do anyway it may not allow.
 module _ {ws marks out after : List ℕ} {a : Answer} (c : CompleteAnswer ws marks out a after) (z : a.number ≡ 0) where
   pub completed_imitated : (e : Edit) → Offers ws e → Allowed after (privilege_of ws e) → Imitates ws Same (Allowed marks) e ⊎ Idle ws e

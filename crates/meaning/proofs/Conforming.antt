@@ -20,10 +20,15 @@ use Rattle.meaning.proofs.Putting.{Some, put_some}
 pub none_conforms : {ws : List ℕ} {f : Forest} → Conforms ws [] f → ¬ Some f
 none_conforms no_tree s = s
 
+-- one tree before others
+before : {ws : List ℕ} {c d : ℕ} {r xs : List ℕ} {m f : Forest} → ConformsAt ws d (tree c r m bare) → Conforms ws xs f → Conforms ws (d ∷ xs) (tree c r m f)
+before (conforming t v no_tree) f = conforming t v f
+
 -- one more and one less of the star's kind
 put_conforms : {ws : List ℕ} {c : ℕ} {r : List ℕ} {m k l : Forest} (n : ℕ) → Put c r m k l → ConformsAt ws c (tree c r m bare) → Conforms ws (replicate n c) k
     → Conforms ws (replicate (suc n) c) l
-put_conforms n put_first (conforming t v no_tree) k = conforming t v k
+put_conforms n put_first v k = before v k
+put_conforms zero (put_later q) v k = elim k [ ]
 put_conforms (suc n) (put_later q) v (conforming t k f) = conforming t k (put_conforms n q v f)
 
 rest_conforms : {ws : List ℕ} {c y : ℕ} {r : List ℕ} {m k l : Forest} (n : ℕ) → Put y r m k l → Conforms ws (replicate n c) l
@@ -33,8 +38,8 @@ rest_conforms (suc n) put_first (conforming t v f) = (n, f)
 rest_conforms (suc n) (put_later q) (conforming t v f) = let h = rest_conforms n q f in (suc h.0, conforming t v h.1)
 
 -- one in another's place
-anew_conforms : {ws : List ℕ} {c : ℕ} {r xs : List ℕ} {m k l : Forest} → Anew c r m k l → ConformsAt ws c (tree c r m bare) → Conforms ws xs k → Conforms ws xs l
-anew_conforms anew_first (conforming t v no_tree) (conforming u w f) = conforming t v f
+anew_conforms : {ws : List ℕ} {c : ℕ} {r : List ℕ} {m : Forest} {xs : List ℕ} {k l : Forest} → Anew c r m k l → ConformsAt ws c (tree c r m bare) → Conforms ws xs k → Conforms ws xs l
+anew_conforms anew_first v (conforming u w f) = before v f
 anew_conforms (anew_later q) v (conforming t k f) = conforming t k (anew_conforms q v f)
 
 -- what fits a type of a known kind

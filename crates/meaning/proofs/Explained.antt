@@ -123,7 +123,7 @@ module _ {ws : List ℕ} {S : ℕ → Type 0} {x : ℕ} where
         turns c z (plus_trans p (last (rw is at step)))
 
 -- what holds of the text and the children of a tree of type x
-at_end : {x : ℕ} {Q : List ℕ → Forest → Type 0} {s : List ℕ} {k : Forest} → Root x Q (tree x s k bare) → Q s k
+at_end : {x y : ℕ} {Q : List ℕ → Forest → Type 0} {s : List ℕ} {k : Forest} → Root x Q (tree y s k bare) → Q s k
 at_end (root q) = q
 
 module _ {ws : List ℕ} {S : ℕ → Type 0} {x : ℕ} {s r : List ℕ} {k l : Forest} (run : Moves ws S (tree x s k bare) (tree x r l bare)) where

@@ -44,6 +44,7 @@ module _ {M : Forest → Forest → Type 0} where
   into_more (into_tree m i q) p = let w = put_swap q p in into_tree m (into_more i w.one) w.other
 
   pub into_less : {x : ℕ} {s : List ℕ} {k e f g : Forest} → Into M f g → Put x s k e f → Into M e g
+  into_less into_none p = elim p [ ]
   into_less (into_tree m i q) put_first = into_more i q
   into_less (into_tree m i q) (put_later p) = into_tree m (into_less i p) q
 
@@ -125,6 +126,7 @@ module _ {M : Forest → Forest → Type 0} (trans : Transitive M) where
 
   -- where M leads from another tree to one, that one may stand for it
   into_from : {x y : ℕ} {s r : List ℕ} {k l e f g : Forest} → M (tree y r l bare) (tree x s k bare) → Into M f g → Put x s k e f → Into M (tree y r l e) g
+  into_from n into_none p = elim p [ ]
   into_from n (into_tree m i q) put_first = into_tree (trans _ _ _ n m) i q
   into_from n (into_tree m i q) (put_later p) = after m q (into_from n i p)
 
@@ -139,6 +141,7 @@ module _ {M : Forest → Forest → Type 0} (trans : Transitive M) where
 
   -- a tree that stands on both sides cancels
   pub into_cancel : {x : ℕ} {s : List ℕ} {k e f g h : Forest} → Into M f g → Put x s k e f → Put x s k h g → Into M e h
+  into_cancel into_none o p = elim o [ ]
   into_cancel (into_tree m i q) put_first p = first m i (two_puts q p)
   into_cancel (into_tree m i q) (put_later o) p = later m i o (λ d w. into_cancel i o w) (two_puts q p)
 

@@ -75,7 +75,9 @@ module _ {ws : List ℕ} {S : ℕ → Type 0} where
 
   module _ {x : ℕ} {Q : List ℕ → Forest → Type 0} (keeps : (s r : List ℕ) (k l : Forest) → Within ws S x s k r l → Q s k → Q r l) where
     pub root_kept : {t u : Forest} → Move ws S t u → Root x Q t → Root x Q u
+    root_kept (ordered same_none) r = elim r [ ]
     root_kept (ordered (same_tree a same_none put_first)) (root q) = root (keeps _ _ _ _ (inside (ordered a)) q)
+    root_kept (ordered (same_tree a (same_tree b c p) q)) r = elim r [ ]
     root_kept (edited e a (at m)) (root q) = root (keeps _ _ _ _ (at_root e a m) q)
     root_kept (edited e a (below m)) (root q) = root (keeps _ _ _ _ (inside (edited e a m)) q)
     root_kept (edited e a (beside m)) (root q) = absurd (makes_some m)

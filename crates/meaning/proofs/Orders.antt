@@ -154,6 +154,7 @@ module _ {ws : List ℕ} {e : Edit} where
       record { result = tree y w n i.result; put = put_later i.put; made = beside i.made }
 
   pub same_makes : {f g h : Forest} → Same f g → Makes ws e f h → Follows ws e g h
+  same_makes same_none m = elim m [ ]
   same_makes (same_tree a b q) (at m) =
       let i = at_follows a m in
       let c = put_changed (λ f. at i.made) q in

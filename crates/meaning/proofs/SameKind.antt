@@ -30,7 +30,7 @@ format_one ws one (replace x i j) o h = omega (arith, o.same_kind h)
 
 -- where there is one tree of the kind only, such an edit changes nothing
 module _ {ws : List ℕ} where
-  anew_still : {y : ℕ} {r xs : List ℕ} {m k l : Forest} → OneTree ws y → Anew y r m k l → ConformsAt ws y (tree y r m bare) → Conforms ws xs k → k ≡ l
+  anew_still : {y : ℕ} {r : List ℕ} {m : Forest} {xs : List ℕ} {k l : Forest} → OneTree ws y → Anew y r m k l → ConformsAt ws y (tree y r m bare) → Conforms ws xs k → k ≡ l
   anew_still {y} o (anew_first {f = f}) c (conforming t v w) = ap (λ (t : Forest). tree y (text_in t) (kids_of t) f) (o _ _ (conforming t v no_tree) c)
   anew_still o (anew_later {y = y} {r = r} {l = l} q) c (conforming t v w) = ap (λ (h : Forest). tree y r l h) (anew_still o q c w)
 

@@ -14,7 +14,7 @@ use Rattle.table.specs.Privilege.{privileges, delete_of, exchange_of, replace_of
 use Rattle.table.specs.declared.Found.{Found}
 use Rattle.table.specs.declared.Found.TheVariants.{At, Nothing}
 use Rattle.table.proofs.Test.{Test, is_equal, both, either, fails, means, settle, lowest_of, lowest_of_lem}
-use Rattle.policy.specs.Marks.{Allowed, marks}
+use Rattle.policy.specs.Marks.{Allowed}
 use Rattle.table.specs.Plus.{last, next}
 use Rattle.policy.specs.Reached.{Reached}
 use Rattle.policy.specs.Renewed.{Both}

@@ -11,7 +11,6 @@ use lib.ListN.{length, get_or, set, length-set}
 use Rattle.table.specs.Words.{types}
 use Rattle.table.specs.Rule.{child_at}
 use Rattle.table.specs.Privilege.{Belongs, privileges, exchange_of, exchange, replace}
-use Rattle.table.specs.Below.{here}
 use Rattle.table.proofs.Test.{settle}
 use Rattle.table.proofs.Privileges.{belongs_one, belongs_below, edit_belongs}
 use Rattle.table.proofs.Facts.{facts}

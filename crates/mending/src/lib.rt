@@ -1,4 +1,6 @@
 // Mending a policy by the stated rule. Contracts cite specs/Answers and specs/Mends.
+#![tactic(auto)]
+
 ghost use Rattle.mending.specs.Answers.{MendAnswer};
 
 pub mod mend_types;

@@ -1,4 +1,4 @@
-// Mending type by type, in one ascending pass, each until it has no breach. Contracts cite specs/Mends, and specs/steps/Taking for the parts.
+// Mending type by type, in one ascending pass, each until it has no breach. Contracts cite specs/Mends, and specs/Steps/Taking for the parts.
 ghost use Rattle.std.specs.Prelude.{◌≡◌, ◌<◌, length};
 ghost use Rattle.table.specs.Words.{types};
 ghost use Rattle.table.specs.Rule.{IsChoice, IsStar};

@@ -1,4 +1,4 @@
-// What the mending rule takes next at a choice, and at a star. Contracts cite specs/steps/Taking.
+// What the mending rule takes next at a choice, and at a star. Contracts cite specs/Steps/Taking.
 ghost use Rattle.std.specs.Prelude.{ℕ, ◌<◌};
 ghost use Rattle.table.specs.Steps.Found.{Tells};
 ghost use Rattle.table.specs.Rule.{IsChoice, IsStar, count_of};

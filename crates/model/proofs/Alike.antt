@@ -109,6 +109,7 @@ module _ {ws : List ℕ} {declared : ℕ} {number : List ℕ → ℕ} where
       where
         chosen : {r : List ℕ} → Picks ws declared (x ∷ []) r → Named number P r
         chosen (this {w = r} h) = a.out r h
+        chosen (other h) = elim h [ ]
 
     pub any_number : Alike number (Repeats ws declared x) (Many P)
     any_number = record { into = λ w p. repeats p; out = λ r t. repeated t }

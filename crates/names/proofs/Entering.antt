@@ -1,5 +1,5 @@
 -- Entering a name where it belongs in the list. Assumes nothing.
-use Prim.Native.Nat.{ℕ, suc, ◌+◌, ◌*◌, ◌≤◌, ◌<◌}
+use Prim.Native.Nat.{ℕ, zero, suc, ◌+◌, ◌*◌, ◌≤◌, ◌<◌}
 use mathlib.Core.Path.{◌≡◌, refl, ◌∙◌}
 use mathlib.Core.Logic.{◌≢◌, ◌⊎◌, inl, inr}
 use mathlib.Core.List.{List}
@@ -45,6 +45,7 @@ from k count i h = go i (le_or_lt k i) h
       where
         further : (i : ℕ) → (i ≤ k) ⊎ (k < i) → k ≤ i → i < suc count → From k count i
         further i (inl f) g h = new (omega arith)
+        further zero (inr f) g h = elim f [ ]
         further (suc j) (inr f) g h = above {j = j} refl (omega arith) (omega arith)
 
 module _ {t : List ℕ} {ds : List Declaration} {before after : List ℕ} {k count a q : ℕ} (x : Listed t ds before count) (c : k ≤ count)

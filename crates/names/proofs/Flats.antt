@@ -72,6 +72,7 @@ flat_le (no_use f g r) = omega (arith, flat_le r)
 flat_le (a_use e n f r) = omega (arith, span_le n.rest, flat_le r)
 
 pub flat_within : {t : List ℕ} {a b j : ℕ} {us : List Use} {u : Use} → Flat t a b us → Nth us j u → (a ≤ u.place) × (u.place < b)
+flat_within {t = t} {j = j} {u = u} (at_end {a = a}) n = elim n [ ]
 flat_within (no_use f g r) n = let h = flat_within r n in (omega (arith, h.0), h.1)
 flat_within (a_use e m f r) first = (omega arith, omega (arith, span_le m.rest, flat_le r))
 flat_within (a_use e m f r) (later n) = let h = flat_within r n in (omega (arith, span_le m.rest, h.0), h.1)

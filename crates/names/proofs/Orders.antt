@@ -18,12 +18,21 @@ upto_trans (lower h) (alike y) = lower h
 upto_trans (alike x) (lower g) = lower g
 upto_trans (alike x) (alike y) = alike (upto_trans x y)
 
+-- the same of two that stand up to two others, which they are the other way round
+upto_crossed : {n m k l : List ℕ} → Upto n m → Upto k l → n ≡ l → m ≡ k → n ≡ m
+upto_crossed ends ends p q = cc
+upto_crossed ends (lower g) p q = cc
+upto_crossed ends (alike y) p q = cc
+upto_crossed (lower h) ends p q = cc
+upto_crossed (lower {a = a} {b = b} h) (lower {a = c} {b = d} g) p q = let e : a ≡ d = cc in let f : b ≡ c = cc in absurd (omega arith)
+upto_crossed (lower {a = a} {b = b} h) (alike {a = c} y) p q = let e : a ≡ c = cc in let f : b ≡ c = cc in absurd (omega arith)
+upto_crossed (alike x) ends p q = cc
+upto_crossed (alike {a = a} x) (lower {a = c} {b = d} g) p q = let e : a ≡ d = cc in let f : a ≡ c = cc in absurd (omega arith)
+upto_crossed (alike {a = a} {n = n} {m = m} x) (alike {n = k} {m = l} y) p q =
+    let e : n ≡ l = cc in let f : m ≡ k = cc in ap (λ (r : List ℕ). a ∷ r) (upto_crossed x y e f)
+
 pub upto_both : {n m : List ℕ} → Upto n m → Upto m n → n ≡ m
-upto_both ends ends = refl
-upto_both (lower h) (lower g) = absurd (omega arith)
-upto_both (lower h) (alike y) = absurd (omega arith)
-upto_both (alike x) (lower g) = absurd (omega arith)
-upto_both (alike {a = a} x) (alike y) = ap (λ (l : List ℕ). a ∷ l) (upto_both x y)
+upto_both x y = upto_crossed x y refl refl
 
 pub upto_or : (n m : List ℕ) → ¬ Upto n m → Upto m n
 upto_or [] m f = absurd (f ends)

@@ -7,7 +7,7 @@ use mathlib.Core.List.{List, ◌∷◌}
 use native.Mathlib.Omega.{arith}
 use lib.ListN.{length}
 use Rattle.grammar.specs.Tree.{Declaration, Nth, first, later, uses_of}
-use Rattle.grammar.specs.Grammar.{Element, element, Remark, ends, no_dash, one_dash, Items, a_space, a_comment, a_declaration}
+use Rattle.grammar.specs.Grammar.{no_more, Element, element, Remark, ends, no_dash, one_dash, Items, a_space, a_comment, a_declaration}
 use Rattle.grammar.proofs.Stopping.{le_or_lt}
 use Rattle.scan.proofs.Agreeing.{span_le, literal_le}
 use Rattle.model.specs.Names.{Misnamed}
@@ -132,6 +132,7 @@ module _ {number : List ℕ → ℕ} {declared : ℕ} where
       omega (arith, literal_le l, span_le s.rest, span_le n.rest, span_le u.rest, y.is, (used_from x y.index y.used y.there).0)
 
   items_from : {t : List ℕ} {a i m k : ℕ} {d : Declaration} {ds : List Declaration} → Items t a ds → Nth ds i d → Wrong number declared m d k → a ≤ k
+  items_from {t = t} {i = i} {m = m} {k = k} {d = d} (no_more {a = a} _) n w = elim n [ ]
   items_from (a_space o r) n w = omega (arith, items_from r n w)
   items_from (a_comment c r) n w = omega (arith, literal_le c.open_it, remark_le c.rest, items_from r n w)
   items_from (a_declaration x r) first w = element_from x w

@@ -1,4 +1,6 @@
-// Walking through the declarations of a text that is of the grammar, and its names. Contracts cite specs/steps.
+// Walking through the declarations of a text that is of the grammar, and its names. Contracts cite specs/Steps.
+#![tactic(auto)]
+
 ghost use Rattle.std.specs.Prelude.{◌≡◌, length};
 ghost use Rattle.names.specs.Steps.Names.{Collected, MisnamedRead};
 

@@ -1,5 +1,5 @@
 // The list of the declared names in the order of their bytes, so that a name is found in few steps however names begin. An entry has two words:
-// the place of a name in the text, and its number, that of the first declaration with this name. Contracts cite specs/steps/Order and specs/steps/Names.
+// the place of a name in the text, and its number, that of the first declaration with this name. Contracts cite specs/Steps/Order and specs/Steps/Names.
 ghost use Rattle.std.specs.Prelude.{◌≡◌, List, ℕ, ◌≤◌, length};
 ghost use Rattle.scan.specs.Steps.Readers.{Tells};
 ghost use Rattle.names.specs.Steps.Walk.{NameAt};

@@ -1,4 +1,4 @@
-// The names of one declaration: its own, and those that its content uses. Contracts cite specs/steps.
+// The names of one declaration: its own, and those that its content uses. Contracts cite specs/Steps.
 ghost use Rattle.std.specs.Prelude.{◌≤◌, length};
 ghost use Rattle.names.specs.Steps.Uses.{UsesRead};
 ghost use Rattle.names.specs.Steps.Wrong.{UnknownRead, WrongRead};

@@ -1,5 +1,5 @@
 // The reader of declarations: the text and the place in it, carried from one declaration to the next. Functions on a slice and a number do the
-// work. They take every text; what they say is said of a text of the grammar. Contracts cite specs/steps.
+// work. They take every text; what they say is said of a text of the grammar. Contracts cite specs/Steps.
 ghost use Rattle.std.specs.Prelude.{◌≡◌, ◌≤◌, length};
 ghost use Rattle.names.specs.Steps.Walk.{NextRead, BehindRead};
 ghost use Rattle.names.specs.Steps.Pieces.{NameEnd, RemarkRead, ElementRead};

@@ -1,5 +1,5 @@
 // Comparing a proposed pair of maps with a policy's own, byte by byte. Contracts cite crate proposing's specs/Proposals of the marks that they spell, and
-// specs/steps/Changing for the parts.
+// specs/Steps/Changing for the parts.
 ghost use Rattle.std.specs.Prelude.{◌≡◌, ℕ, ◌/◌, ◌%◌, ◌≤◌, ◌<◌, length};
 ghost use Rattle.table.specs.HowMany.{HowMany};
 ghost use Rattle.table.specs.Steps.Found.{Lowest, Tells};

@@ -1,4 +1,4 @@
-// Checking a pair of maps, and a table with its pair. Contracts cite specs/Maps, and specs/steps/Checking for the parts.
+// Checking a pair of maps, and a table with its pair. Contracts cite specs/Maps, and specs/Steps/Checking for the parts.
 ghost use Rattle.std.specs.Prelude.{◌≡◌, ℕ, ◌/◌, ◌≤◌, ◌<◌, length, get_or};
 ghost use Rattle.std.specs.Int.Bits.{bit_and};
 ghost use Rattle.table.specs.Steps.Found.{Lowest, Tells};

@@ -1,5 +1,7 @@
-// Pairs of bit maps, an allowed and a forbidden one: checked, spelled into marks and back, and compared. Contracts cite specs/Maps, and specs/steps for the
+// Pairs of bit maps, an allowed and a forbidden one: checked, spelled into marks and back, and compared. Contracts cite specs/Maps, and specs/Steps for the
 // parts.
+#![tactic(auto)]
+
 pub mod changes;
 pub mod check;
 pub mod spelling;

@@ -1,4 +1,4 @@
-// Maps spelled into marks, and marks into maps, a byte of each map at a time. Contracts cite specs/steps/Spelling.
+// Maps spelled into marks, and marks into maps, a byte of each map at a time. Contracts cite specs/Steps/Spelling.
 ghost use Rattle.std.specs.Prelude.{◌≡◌, ℕ, ◌+◌, ◌*◌, ◌/◌, ◌%◌, ◌^◌, ◌≤◌, ◌<◌, length, get_or, List};
 ghost use Rattle.policy.specs.Marks.{Legal};
 ghost use Rattle.pairs.specs.Maps.{maps, maps_of, Roomy, before};

@@ -1,5 +1,7 @@
 // A policy's marks: checked, copied, read into rows of bits, what they let a choice reach and a star renew, and decided marks written from rows.
-// Contracts cite specs/Marks, specs/Reached and specs/Renewed; specs/steps for the parts.
+// Contracts cite specs/Marks, specs/Reached and specs/Renewed; specs/Steps for the parts.
+#![tactic(auto)]
+
 pub mod marks;
 pub mod packed;
 pub mod reach;

@@ -1,4 +1,4 @@
-// Checking a run of marks, and a table with its marks; and copying a run. Contracts cite specs/Marks and specs/steps/Checking.
+// Checking a run of marks, and a table with its marks; and copying a run. Contracts cite specs/Marks and specs/Steps/Checking.
 ghost use Rattle.std.specs.Prelude.{◌≡◌, ℕ, ◌≤◌, ◌<◌, length, get_or};
 ghost use Rattle.table.specs.Steps.Found.{Lowest, Tells};
 ghost use Rattle.policy.specs.Marks.{Legal};
@@ -27,6 +27,7 @@ pub fn none_above(marks: &[u8], most: u8) -> bool
 }
 
 // The lowest privilege whose mark is above 2.
+#[tactic(auto, using(table::proofs::Lowest::passed_hit, table::proofs::Lowest::passed_more))]
 fn lowest_above(marks: &[u8]) -> Found
     ensures { Lowest (Legal marks.now) (length marks.now) result }
 {

@@ -1,5 +1,5 @@
 // Marks read eight at a time, two bits for each, and gathered into a row of bits; a gap opened in a row of bits, and closed.
-// Contracts cite specs/steps/Packed.
+// Contracts cite specs/Steps/Packed.
 ghost use Rattle.std.specs.Prelude.{ℕ, ◌+◌, ◌≤◌, ◌<◌, length};
 ghost use Rattle.table.specs.Steps.Reading.{Within};
 ghost use Rattle.policy.specs.Marks.{Legal};

@@ -1,4 +1,4 @@
-// Reaching within a choice: the closure of the allowed replacements. Contracts cite specs/Reached, and specs/steps/Squares for the rows.
+// Reaching within a choice: the closure of the allowed replacements. Contracts cite specs/Reached, and specs/Steps/Squares for the rows.
 ghost use Rattle.std.specs.Prelude.{◌≤◌};
 ghost use Rattle.table.specs.Plus.{Plus};
 ghost use Rattle.table.specs.Rule.{IsChoice, count_of};

@@ -1,4 +1,4 @@
-// Renewing the child of a star: by insert and delete, or by the exchange where there is one. Contracts cite specs/steps/Renewing.
+// Renewing the child of a star: by insert and delete, or by the exchange where there is one. Contracts cite specs/Steps/Renewing.
 ghost use Rattle.std.specs.Prelude.{◌≤◌};
 ghost use Rattle.table.specs.Steps.Found.{Tells};
 ghost use Rattle.policy.specs.Steps.Renewing.{BothIn, ExchangeMark, RenewedIn, RenewalIn};

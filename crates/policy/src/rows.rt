@@ -1,5 +1,5 @@
 // A relation on the positions of a choice as 16 rows of 16 bits: read of its marks, asked, changed and joined. Only this crate looks into a
-// row's bits. Contracts cite specs/steps/Squares.
+// row's bits. Contracts cite specs/Steps/Squares.
 ghost use Rattle.std.specs.Prelude.{◌≡◌, ℕ, ◌+◌, ◌≤◌, ◌<◌, length, get_or};
 ghost use Rattle.table.specs.Steps.Found.{Tells};
 ghost use Rattle.table.specs.Steps.Numbering.{row_in};

@@ -1,4 +1,4 @@
-// Writing the decided marks of a choice by a square. Contracts cite specs/steps/Writing.
+// Writing the decided marks of a choice by a square. Contracts cite specs/Steps/Writing.
 ghost use Rattle.std.specs.Prelude.{◌≡◌, true, ◌+◌, ◌-◌, ◌≤◌, ◌<◌, length};
 ghost use Rattle.policy.specs.Steps.Squares.{bit, Room};
 ghost use Rattle.policy.specs.Steps.Writing.{decision, RangeWritten, RowWritten, ChoiceWritten};

@@ -1,4 +1,6 @@
 // Judging a mend that somebody proposes. Contracts cite specs/Answers and specs/Proposals.
+#![tactic(auto)]
+
 ghost use Rattle.proposing.specs.Answers.{ProposeAnswer};
 
 mod compare;

@@ -1,4 +1,4 @@
-// The edit of which a line speaks behind its type's name, by the rule of the type. Contracts cite specs/steps/Edits.
+// The edit of which a line speaks behind its type's name, by the rule of the type. Contracts cite specs/Steps/Edits.
 ghost use Rattle.std.specs.Prelude.{◌≡◌, ◌≤◌, ◌<◌, length};
 ghost use Rattle.table.specs.Words.{types};
 ghost use Rattle.table.specs.Privilege.{first_privilege};

@@ -1,4 +1,6 @@
-// Reading the lines of a listing. Contracts cite specs/steps/Reading.
+// Reading the lines of a listing. Contracts cite specs/Steps/Reading.
+#![tactic(auto)]
+
 ghost use Rattle.std.specs.Prelude.{ℕ, ◌≡◌, length, get_or};
 ghost use Rattle.labels.specs.Steps.Booked.{label_in};
 ghost use Rattle.reading.specs.Steps.Reading.{Readable, LinesRead};

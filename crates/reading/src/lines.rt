@@ -1,4 +1,4 @@
-// One line of a listing. Contracts cite specs/steps/Edits.
+// One line of a listing. Contracts cite specs/Steps/Edits.
 ghost use Rattle.std.specs.Prelude.{◌≤◌, ◌<◌, length};
 ghost use Rattle.table.specs.Words.{types};
 ghost use Rattle.labels.specs.Steps.Booked.{label_in};

@@ -1,4 +1,4 @@
-// Looking for the parts of a line in a listing, each with the byte that ends it. Contracts cite specs/steps/Matching.
+// Looking for the parts of a line in a listing, each with the byte that ends it. Contracts cite specs/Steps/Matching.
 ghost use Rattle.std.specs.Prelude.{ℕ, ◌≤◌, ◌<◌, [], ◌∷◌, length, get_or};
 ghost use Rattle.labels.specs.Steps.Booked.{label_in};
 ghost use Rattle.listing.specs.Line.{spaced};

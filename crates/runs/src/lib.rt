@@ -1,4 +1,6 @@
 // Runs of bytes: putting one into another, a part of one, and whether two are the same. Contracts cite specs/Putting.
+#![tactic(auto)]
+
 ghost use Rattle.std.specs.Prelude.{◌≡◌, ◌+◌, ◌<◌, length};
 ghost use Rattle.std.proofs.Math.Seq.{slice};
 ghost use Rattle.table.specs.Steps.Found.{Tells};

@@ -1,14 +1,11 @@
 -- What the readers answer, one after another. Assumes nothing.
-use Prim.Native.Nat.{ℕ, suc, ◌-◌, ◌≤◌}
+use Prim.Native.Nat.{ℕ, suc, ◌≤◌}
 use Prim.Native.Char.{code}
-use mathlib.Core.Path.{◌≡◌, refl, subst}
-use mathlib.Core.Logic.{◌≢◌, inl, inr}
+use mathlib.Core.Path.{◌≡◌, refl}
+use mathlib.Core.Logic.{◌≢◌}
 use mathlib.Core.List.{List, [], ◌∷◌}
 use native.Mathlib.Omega.{arith}
 use lib.ListN.{length}
-use types.Run.{OneOf}
-use denote.Enum.Declared.{tag_of}
-use Rattle.scan.specs.contracts.Step.{the_type}
 use Rattle.grammar.specs.Bytes.{ascii, is_name_byte, is_mark, Byte, Of}
 use Rattle.grammar.proofs.Pieces.{apart, space_no_name, space_no_mark, mark_no_name}
 use Rattle.grammar.proofs.Unique.{Separator}
@@ -21,14 +18,6 @@ use Rattle.scan.proofs.Moving.{moves_on, reads_on, turn, Avoids}
 use Rattle.scan.proofs.Pieces.{avoids_blanks, blanks_moves, maybe_moves, name_reads, word_reads}
 use Rattle.scan.proofs.Groups.{good_row, good_inside, good_closing, good_opening, row_tight, inside_tight, avoids_closing, avoids_opening, as_name, into_group, too_deep, row_begins, inside_begins, opens_choice, opens_sequence, closes, separates}
 use Rattle.scan.proofs.Items.{end_avoids, good_rest, good_marked}
-
--- an answer is no end, by its tag
-pub not_at : {r : Step} → OneOf (1 ∷ 2 ∷ []) (tag_of the_type r) → (e : ℕ) → r ≢ At e
-not_at {r} k e p = go (subst (λ (q : Step). OneOf (1 ∷ 2 ∷ []) (tag_of the_type q)) p k)
-  where
-    go : OneOf (1 ∷ 2 ∷ []) (tag_of the_type (At e)) → ⊥
-    go (inl q) = let z : ◌≡◌ {A = ℕ} 0 1 = q in omega arith
-    go (inr q) = let z : ◌≡◌ {A = ℕ} 0 2 = q in omega arith
 
 -- an answer that is no end says nothing of what follows
 pub reads_other : {P Q R : Claim} {t : List ℕ} {a : ℕ} {r : Step} → ((e : ℕ) → r ≢ At e) → Reads P Q t a r → Reads P R t a r

@@ -63,6 +63,7 @@ mutual
     where
       only : {i : ℕ} {y : Use} → Nth (record { place = a; bytes = x } ∷ []) i y → LongAt y.place y.bytes j n → LongAt a x j n
       only first l = l
+      only {y = y} (later {i = i} x10) l = elim x10 [ ]
   wide_at (name a x k) depth j n (inr w) = absurd w.0
   wide_at (choice a ps k) zero j n (inl w) = inr (wide_in ps zero j n (inl w))
   wide_at (choice a ps k) zero j n (inr (inl e, z)) = inl (sym e, z)

@@ -1,4 +1,6 @@
-// Scanning DTD text: where it stops being the grammar, or passes a limit. Contracts cite specs/steps.
+// Scanning DTD text: where it stops being the grammar, or passes a limit. Contracts cite specs/Steps.
+#![tactic(auto)]
+
 ghost use Rattle.scan.specs.Steps.Scanned.{Scanned};
 ghost use Rattle.std.specs.Prelude.{min, ◌≡◌};
 ghost use Rattle.scan.specs.Steps.Readers.{place_of};

@@ -1,4 +1,4 @@
-// Three numbers for each privilege: how often it is allowed, forbidden and unset. Contracts cite specs/steps/Counting.
+// Three numbers for each privilege: how often it is allowed, forbidden and unset. Contracts cite specs/Steps/Counting.
 ghost use Rattle.std.specs.Prelude.{◌≡◌, ℕ, ◌+◌, ◌*◌, ◌≤◌, ◌<◌, length, get_or, replicate};
 ghost use Rattle.policy.specs.Marks.{Legal};
 ghost use Rattle.sheet.specs.Steps.Counting.{Room, SlotOf, MarksCounted};

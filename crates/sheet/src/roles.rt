@@ -1,4 +1,4 @@
-// Counting the roles, one after another. Contracts cite specs/Sheets, and specs/steps/Counting for the parts.
+// Counting the roles, one after another. Contracts cite specs/Sheets, and specs/Steps/Counting for the parts.
 ghost use Rattle.std.specs.Prelude.{◌≡◌, ℕ, ◌+◌, ◌*◌, ◌<◌, length, get_or, replicate};
 ghost use Rattle.table.specs.Check.{Accepted};
 ghost use Rattle.table.specs.Privilege.{privileges};

@@ -1,5 +1,5 @@
 // Accepting a table in one pass over its types and one along their order. For each type a stamp, 65,535 while it is nobody's child, else its latest
-// parent's number, and a count of the child entries that name it. Contracts cite specs/steps/Accept. Only a yes promises something.
+// parent's number, and a count of the child entries that name it. Contracts cite specs/Steps/Accept. Only a yes promises something.
 ghost use Rattle.std.specs.Prelude.{◌≡◌, true, ◌≤◌, ◌<◌, length, replicate};
 ghost use Rattle.table.specs.Steps.Found.{Tells};
 ghost use Rattle.table.specs.Check.{Laid, RightCount};

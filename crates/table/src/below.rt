@@ -1,4 +1,4 @@
-// What is below a type, whether or not there is an order. Contracts cite specs/Below, and specs/steps/Flags for the way there.
+// What is below a type, whether or not there is an order. Contracts cite specs/Below, and specs/Steps/Flags for the way there.
 ghost use Rattle.std.specs.Prelude.{◌≡◌, ◌<◌, replicate};
 ghost use Rattle.table.specs.Words.{types};
 ghost use Rattle.table.specs.Check.{Inside};

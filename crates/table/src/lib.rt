@@ -1,5 +1,7 @@
 // The schema table: reading its words, and checking it with refusals 1 to 9 and 19.
 // Contracts cite specs/Check for what a table must hold, and the other files of specs/ for what its words mean.
+#![tactic(auto)]
+
 ghost use Rattle.std.specs.Prelude.{◌≡◌, length};
 ghost use Rattle.table.specs.Check.{TableAnswer};
 ghost use Rattle.table.specs.Steps.Accepting.{OrderedAnswer};

@@ -1,4 +1,4 @@
-// An order of the types in which every type comes after its children. Contracts cite specs/steps/Order, and specs/steps/Counts for the way there.
+// An order of the types in which every type comes after its children. Contracts cite specs/Steps/Order, and specs/Steps/Counts for the way there.
 ghost use Rattle.std.specs.Prelude.{◌≡◌, ◌+◌, ◌≤◌, length, replicate};
 ghost use Rattle.table.specs.Check.{Accepted};
 ghost use Rattle.table.specs.Steps.Childed.{Childed};

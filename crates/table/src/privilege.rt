@@ -1,4 +1,4 @@
-// How many privileges a table has, and the number of each. Contracts cite specs/Privilege, and specs/steps/Numbering for the parts.
+// How many privileges a table has, and the number of each. Contracts cite specs/Privilege, and specs/Steps/Numbering for the parts.
 ghost use Rattle.std.specs.Prelude.{◌≡◌, ◌≤◌, ◌<◌, length};
 ghost use Rattle.table.specs.Words.{types};
 ghost use Rattle.table.specs.Steps.Reading.{Within, HasRecord};

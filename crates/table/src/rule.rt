@@ -1,4 +1,4 @@
-// A type's rule and its children. Contracts cite specs/Rule, and specs/steps/Reading for what must stand in the run.
+// A type's rule and its children. Contracts cite specs/Rule, and specs/Steps/Reading for what must stand in the run.
 ghost use Rattle.std.specs.Prelude.{◌≡◌};
 ghost use Rattle.table.specs.Steps.Reading.{HasRecord, ReadAs, HasChildren};
 ghost use Rattle.table.specs.Rule.{rule_of, rule_at, children_at, child_at};

@@ -1,5 +1,5 @@
 // Reading a lent run of words, for every place: past the end stands 0, and a stretch that runs over the end is shorter. A type's record is read
-// where it is known to be there. Contracts cite specs/Words and specs/steps/Reading.
+// where it is known to be there. Contracts cite specs/Words and specs/Steps/Reading.
 ghost use Rattle.std.specs.Prelude.{◌≡◌, ◌-◌, ◌<◌, min, take, drop, get_or};
 ghost use Rattle.table.specs.Words.{types, entries, record_word};
 ghost use Rattle.table.specs.Steps.Reading.{Widened, HasRecord};

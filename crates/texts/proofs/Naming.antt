@@ -78,6 +78,7 @@ module _ (number : List ℕ → ℕ) (declared : ℕ) where
   unknowns (u ∷ us) = when (is_at_most declared (number u.bytes)) (λ h. u.place ∷ unknowns us) (λ h. unknowns us)
 
   unknown_in : {k i : ℕ} {u : Use} (us : List Use) → Nth us i u → declared ≤ number u.bytes → u.place ≡ k → In k (unknowns us)
+  unknown_in [] n h e = elim n [ ]
   unknown_in {k} (u ∷ us) first h e = by_when (In k) (is_at_most declared (number u.bytes)) (λ y. here e) (λ f. absurd (f h))
   unknown_in {k} (v ∷ us) (later n) h e = by_when (In k) (is_at_most declared (number v.bytes)) (λ y. there (unknown_in us n h e)) (λ f. unknown_in us n h e)
 

@@ -20,7 +20,6 @@ use Rattle.policy.specs.Reached.{Step}
 use Rattle.policy.specs.Renewed.{Renewed, Barred}
 use Rattle.policy.specs.Steps.Renewing.{BarredIn, RenewalIn}
 use Rattle.policy.specs.declared.renew.Renewal.{Renewal}
-use Rattle.policy.specs.declared.renew.Renewal.TheVariants as Renewal
 use Rattle.chain.specs.Chain.{Fewest, chain_of, ShortestChain}
 use Rattle.chain.specs.declared.Chain.{Chain as Chained}
 use Rattle.chain.proofs.Chains.{fewest_short, chain_places}

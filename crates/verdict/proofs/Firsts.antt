@@ -4,7 +4,7 @@ use mathlib.Core.Path.{◌≡◌, refl, sym, ap, subst, ◌∙◌}
 use mathlib.Core.Logic.{◌≢◌, ◌⊎◌, inl, inr}
 use mathlib.Core.List.{List, [], ◌∷◌}
 use native.Mathlib.Omega.{arith}
-use lib.ListN.{length, get_or}
+use lib.ListN.{get_or}
 use Rattle.table.specs.Words.{types}
 use Rattle.table.specs.Privilege.{exchange_of, replace_of}
 use Rattle.table.proofs.HowMany.{many_one}
@@ -140,7 +140,7 @@ module _ (ws marks : List ℕ) where
   pub first_one : {b c : Breach} → FirstBreach ws marks b → FirstBreach ws marks c → b ≡ c
   first_one {b} {c} f g =
       let e : spot_of b ≡ spot_of c = spot_one f.spot g.spot in
-      breach_one b c e (omega (arith, f.lowest c.privilege (rw e g.breach), g.lowest b.privilege (rw (← e) f.breach)))
+      breach_one b c e (omega (arith, f.lowest c.privilege (subst (λ (s : Spot). IsBreach ws marks s c.privilege) (sym e) g.breach), g.lowest b.privilege (subst (λ (s : Spot). IsBreach ws marks s b.privilege) e f.breach)))
       (many_one f.count (rw e g.count))
       (chain_at_one f.chain (rw e g.chain))
 

@@ -1,4 +1,4 @@
-// What is forbidden below a type: the lowest privilege, and how many there are. Contracts cite specs/Below, and specs/steps/Tallies for the parts.
+// What is forbidden below a type: the lowest privilege, and how many there are. Contracts cite specs/Below, and specs/Steps/Tallies for the parts.
 ghost use Rattle.std.specs.Prelude.{ℕ, ◌≤◌, ◌<◌, length};
 ghost use Rattle.table.specs.HowMany.{HowMany, Tallied};
 ghost use Rattle.table.specs.Privilege.{privileges};

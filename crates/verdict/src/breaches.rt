@@ -1,5 +1,5 @@
 // The first breach of a policy, searched for type by type, by the flags that tell below which types something is forbidden: they may be any. What
-// breaks it there and its chain are asked once it is found. Contracts cite specs/Breaches, and specs/steps/Visits and specs/steps/Spoils for the parts.
+// breaks it there and its chain are asked once it is found. Contracts cite specs/Breaches, and specs/Steps/Visits and specs/Steps/Spoils for the parts.
 ghost use Rattle.std.specs.Prelude.{◌≡◌, true, ◌<◌, length, get_or};
 ghost use Rattle.table.specs.Words.{types};
 ghost use Rattle.table.specs.Rule.{IsChoice, IsStar, count_of};

@@ -1,4 +1,4 @@
-// Entries that a store keeps for each type: what is forbidden below it. Contracts cite specs/Kept, and specs/steps/Reading for the parts.
+// Entries that a store keeps for each type: what is forbidden below it. Contracts cite specs/Kept, and specs/Steps/Reading for the parts.
 ghost use Rattle.std.specs.Prelude.{◌≡◌, ◌*◌, ◌≤◌, ◌<◌, length};
 ghost use Rattle.table.specs.Words.{types};
 ghost use Rattle.verdict.specs.Kept.{entry_of, KeptBelow};

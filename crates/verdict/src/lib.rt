@@ -1,5 +1,7 @@
 // The verdict on a policy: the three conditions, and the first breach of them.
 // Contracts cite specs/Answers for what the call answers, and specs/Conditions and specs/Breaches for what a verdict is.
+#![tactic(auto)]
+
 ghost use Rattle.std.specs.Prelude.{◌≡◌};
 ghost use Rattle.verdict.specs.Breaches.{condition_number};
 ghost use Rattle.verdict.specs.Answers.{refusal, done, JudgeAnswer};

@@ -1,5 +1,5 @@
 // Which types have something forbidden below them, in one pass along the order in which every type comes after its children, and kept: a flag for
-// each type. Contracts cite specs/Below, and specs/steps/Spoils for the parts.
+// each type. Contracts cite specs/Below, and specs/Steps/Spoils for the parts.
 ghost use Rattle.std.specs.Prelude.{◌≡◌, ℕ, ◌≤◌, ◌<◌, length, get_or};
 ghost use Rattle.table.specs.Steps.Order.{BottomUp};
 ghost use Rattle.policy.specs.Marks.{Legal, Policy};

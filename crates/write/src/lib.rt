@@ -1,4 +1,6 @@
-// From the code of a text's declarations to the words of their table. Contracts cite specs/steps/Code.
+// From the code of a text's declarations to the words of their table. Contracts cite specs/Steps/Code.
+#![tactic(auto)]
+
 ghost use Rattle.std.specs.Prelude.{◌≤◌, ◌≡◌, List, length};
 ghost use Rattle.grammar.specs.Tree.{Declaration};
 ghost use Rattle.write.specs.Steps.Code.{Coded, Counted, Written};

@@ -1,5 +1,5 @@
 // Reading the words of a code, whatever they are: past the end stands 0. A name is below 65536, optional begins at 393216, positive at 458752.
-// Contracts cite specs/steps/Reading.
+// Contracts cite specs/Steps/Reading.
 ghost use Rattle.std.specs.Prelude.{◌+◌, ◌<◌, get_or, drop};
 ghost use Rattle.table.specs.Steps.Reading.{Within};
 ghost use Rattle.write.specs.Steps.Reading.{operands_in, own_in, extra_in, star_in, rule_kind_in, need_after, free_after, inner_of};

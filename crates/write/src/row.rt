@@ -1,4 +1,4 @@
-// Writing the rows of a table, for every code: what does not fit is left out. Contracts cite specs/steps/Reading and specs/steps/Writing.
+// Writing the rows of a table, for every code: what does not fit is left out. Contracts cite specs/Steps/Reading and specs/Steps/Writing.
 ghost use Rattle.std.specs.Prelude.{◌+◌, ◌*◌, ◌%◌, ◌≤◌, ◌<◌, ◌≡◌, [], ◌∷◌, length, get_or, drop};
 ghost use Rattle.write.specs.Steps.Reading.{rule_kind_in, operands_in, extra_in, star_in, children_in, last_of, row_of, own_due, extra_due, due_of};
 ghost use Rattle.write.specs.Steps.Reading.{rows_at, rows_in, Numbered};

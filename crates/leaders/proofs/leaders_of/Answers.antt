@@ -1,6 +1,5 @@
 -- The loop has the leaders of the privileges passed, and the bar that the next must reach. Assumes nothing.
 use borrow.Author.Rules.{rules}
-use mathlib.Core.Logic.{⊎_elim}
 use mathlib.Core.Path.{◌≡◌, ◌∙◌}
 use native.Mathlib.Omega.{arith}
 use lib.ListN.{length}
@@ -8,6 +7,7 @@ use Prim.Native.Nat.{◌/◌}
 use Rattle.leaders.specs.Leaders.{often_of}
 use Rattle.leaders.proofs.Entering.{leaders_start, leaders_stay, bar_reached, bar_stays}
 use Rattle.leaders.proofs.leaders_of.Goals as goal
+use Rattle.leaders.proofs.leaders_of.Goals.{then-bar-wide, else-bar-wide}
 
 pub loop-p-init : goal.loop-p-init
 loop-p-init c = (search rules, leaders_start, search rules)
@@ -19,10 +19,10 @@ entered-next-requires c = let compared : c.wide.result ≡ often_of c.args.count
 pub loop-p-preserved : goal.loop-p-preserved
 loop-p-preserved c = let compared : c.wide.result ≡ often_of c.args.counts.now c.loop-p.p = c.wide.ensures ∙ c.often_at.ensures in
     let often = compared in
-    ⊎_elim
-    (λ w. (search rules, rw w.3 w.1.ensures, rw (w.3, w.4) w.2.ensures))
-    (λ w. (search rules, rw w.1 (leaders_stay c.loop-p.invariant.2 c.loop-p.invariant.1 (omega (arith, w.0.left, often))), rw (w.1, w.2) (bar_stays c.loop-p.invariant.2 (omega (arith, w.0.left, often)))))
-    c.if-bar-wide.branch
+    elim c.if-bar-wide.branch [
+      | then-bar-wide w ↦ (search rules, rw w.at-is w.entered-next.ensures, rw (w.at-is, w.bar-is) w.bar_at-bar.ensures)
+      | else-bar-wide w ↦ (search rules, rw w.at-is (leaders_stay c.loop-p.invariant.2 c.loop-p.invariant.1 (omega (arith, w.if-bar-wide.false, often))), rw (w.at-is, w.bar-is) (bar_stays c.loop-p.invariant.2 (omega (arith, w.if-bar-wide.false, often))))
+    ]
 
 pub returns : goal.returns
 returns c = let counts = c.args.counts.now in

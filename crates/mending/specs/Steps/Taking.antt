@@ -13,7 +13,6 @@ use Rattle.verdict.specs.Breaches.{IsBreach, FirstSpot}
 use Rattle.verdict.specs.Steps.Spoils.{Flagged, Agree}
 use Rattle.verdict.specs.declared.Spot.{Spot}
 use Rattle.verdict.specs.declared.breaches.Pair.{Pair}
-use Rattle.verdict.specs.declared.breaches.Pair.TheVariants as Pair
 use Rattle.mending.specs.Mends.{Takes}
 
 -- the flags tell below which types something is forbidden

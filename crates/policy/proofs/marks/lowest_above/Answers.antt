@@ -9,11 +9,5 @@ returns-then-none_above c = told_yes c.none_above.result c.none_above.ensures c.
 pub loop-p-init : goal.loop-p-init
 loop-p-init c = passed_start
 
-pub returns-then-marks-p-gt2 : goal.returns-then-marks-p-gt2
-returns-then-marks-p-gt2 c = passed_hit c.loop-p.invariant c.loop-p-test.true (λ l. omega arith)
-
-pub loop-p-preserved : goal.loop-p-preserved
-loop-p-preserved c = passed_more c.loop-p.invariant c.loop-p-test.true c.if-marks-p-gt2.false
-
 pub returns : goal.returns
 returns c = passed_all c.loop-p.invariant c.loop-p-test.false

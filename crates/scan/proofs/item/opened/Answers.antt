@@ -1,3 +1,4 @@
+use mathlib.Core.List.{[]}
 use native.Mathlib.Numerals.{add-one}
 use Rattle.scan.proofs.Told.{yes_told, no_told}
 use Rattle.scan.proofs.Declared.{opened_text, opened_group}

@@ -1,7 +1,6 @@
 -- The loop has marked the kids passed. Assumes nothing.
 use Rattle.table.proofs.Marks.{add_start, add_skip, add_one_more, add_room, add_all}
 use native.Mathlib.Omega.{arith}
-use mathlib.Core.Logic.{⊎_elim}
 use Prim.Native.Nat.{◌<◌}
 use Rattle.table.proofs.below.add_kids.Goals as goal
 use Rattle.table.proofs.below.add_kids.Goals.{then-marks-child-ne1, else-marks-child-ne1}
@@ -36,8 +35,8 @@ loop-i-preserved c = let low : c.word_at-child.result < 256 = omega (arith, c.wo
     let s = c.loop-i.invariant in
     let l = c.loop-i-test.true in
     elim c.if-marks-child-ne1.branch [
-      then-marks-child-ne1 w ↦ rw (w.marks-is, w.order-is, w.n-is) (add_one_more s l c.word_at-child.ensures.is low w.if-marks-child-ne1.true)
-    | else-marks-child-ne1 w ↦ rw (w.marks-is, w.order-is, w.n-is) (add_skip s l c.word_at-child.ensures.is low w.if-marks-child-ne1.false)
+      | then-marks-child-ne1 w ↦ rw (w.marks-is, w.order-is, w.n-is) (add_one_more s l c.word_at-child.ensures.is low w.if-marks-child-ne1.true)
+      | else-marks-child-ne1 w ↦ rw (w.marks-is, w.order-is, w.n-is) (add_skip s l c.word_at-child.ensures.is low w.if-marks-child-ne1.false)
     ]
 
 pub returns : goal.returns

@@ -2,7 +2,6 @@
 use Rattle.table.proofs.Children.{entries_all}
 use Rattle.table.proofs.Entries.{count_start, count_more, entry_inside, read_list, entries_sum}
 use Rattle.table.proofs.Sums.{occurs_few}
-use Rattle.table.specs.Words.{types}
 use Rattle.table.specs.Steps.Reading.{child_list}
 use native.Mathlib.Omega.{arith}
 use lib.ListN.{length, get_or}

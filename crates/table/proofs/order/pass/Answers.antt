@@ -69,8 +69,8 @@ loop-i-preserved c = let some : 1 ≤ get_or c.loop-i.counts c.word_at-child.res
     let l = c.loop-i-test.true in
     let one : get_or c.loop-i.counts c.word_at-child.result 0 - 1 + 1 ≡ get_or c.loop-i.counts c.word_at-child.result 0 = omega (arith, some) in
     elim c.if-left-eq0.branch [
-      then-left-eq0 w ↦ rw (w.order-is, w.free-is) (passing_take g p l c.word_at-child.ensures.is one w.if-left-eq0.true)
-    | else-left-eq0 w ↦ rw (w.order-is, w.free-is) (passing_keep g p l c.word_at-child.ensures.is one w.if-left-eq0.false)
+      | then-left-eq0 w ↦ rw (w.order-is, w.free-is) (passing_take g p l c.word_at-child.ensures.is one w.if-left-eq0.true)
+      | else-left-eq0 w ↦ rw (w.order-is, w.free-is) (passing_keep g p l c.word_at-child.ensures.is one w.if-left-eq0.false)
     ]
 
 pub returns : goal.returns

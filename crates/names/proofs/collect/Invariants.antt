@@ -1,0 +1,17 @@
+-- The loop keeps that the declarations so far are counted, their names listed, and the rest is left. Assumes nothing.
+use Prim.Native.Nat.{◌-◌, ◌≤◌}
+use mathlib.Core.Path.{◌≡◌}
+use mathlib.Core.List.{List}
+use lib.ListN.{length}
+use Rattle.grammar.specs.Tree.{Declaration}
+use Rattle.grammar.specs.Grammar.{Items}
+use Rattle.names.specs.Steps.Names.{Listed}
+use Rattle.names.proofs.Gone.{Gone}
+use Rattle.names.proofs.collect.Given as goal
+
+abbrev pub invariant-loop-name : goal.invariant-loop-name
+invariant-loop-name l = (l.at ≤ length l.s) × (l.count ≤ l.at) × (length l.list ≡ 512)
+    × ((ds : List Declaration) → Items l.s 0 ds → length l.s ≤ 65536 → Gone l.s ds l.count l.at × (l.count ≤ 256 → Listed l.s ds l.list l.count))
+
+abbrev pub decreases-loop-name : goal.decreases-loop-name
+decreases-loop-name l = length l.s - l.at

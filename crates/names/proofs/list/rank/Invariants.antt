@@ -1,0 +1,13 @@
+-- The loop keeps which entries stand up to the name and which do not. Assumes nothing.
+use Prim.Native.Nat.{ℕ, ◌-◌, ◌≤◌}
+use mathlib.Core.List.{List}
+use Rattle.grammar.specs.Tree.{Declaration}
+use Rattle.names.specs.Steps.Walk.{NameAt}
+use Rattle.names.specs.Steps.Names.{Listed, Ranked}
+use Rattle.names.proofs.list.rank.Given as goal
+
+abbrev pub invariant-loop-low : goal.invariant-loop-low
+invariant-loop-low l = (l.low ≤ l.high) × (l.high ≤ l.size) × ((ds : List Declaration) (n : List ℕ) → Listed l.s ds l.list l.size → NameAt l.s l.at n → Ranked l.s l.list l.size n l.low l.high)
+
+abbrev pub decreases-loop-low : goal.decreases-loop-low
+decreases-loop-low l = l.high - l.low
