@@ -5,7 +5,7 @@
  * again. Judging, completing and mending one policy and judging a mend are there as well for one that is kept as two bit maps. The seventeen calls
  * are proved to answer as said here for every input; nothing checks this header against them but tests/store.
  *
- * Build the library with `rt staticlib store` and link target/staticlib/libstore.a (x86-64 Linux). For C99 or C++11, or later.
+ * Build the library with `./build store` and link target/staticlib/libstore.a (x86-64 Linux). For C99 or C++11, or later.
  *
  * What is lent
  *   Each run is a pointer to its first item and the number of its items. With length 0 the pointer may be any, also NULL; else it is never NULL. What

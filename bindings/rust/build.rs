@@ -1,4 +1,4 @@
-//! Says where `rt staticlib store` left the library: `FINNEDSCARF_LIB`, or the repository's own target folder.
+//! Says where `./build store` left the library: `FINNEDSCARF_LIB`, or the repository's own target folder.
 
 fn main() {
     let own = concat!(env!("CARGO_MANIFEST_DIR"), "/../../target/staticlib");

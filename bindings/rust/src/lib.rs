@@ -32,7 +32,7 @@
 //! # Ok::<(), finnedscarf::Refusal>(())
 //! ```
 //!
-//! To link it, `rt staticlib store` makes `target/staticlib/libstore.a` (x86-64 Linux). Cargo finds it there, or in the folder that the
+//! To link it, `./build store` makes `target/staticlib/libstore.a` (x86-64 Linux). Cargo finds it there, or in the folder that the
 //! variable `FINNEDSCARF_LIB` names; for rustc it is `-L native=target/staticlib` where this crate is compiled.
 
 mod border;

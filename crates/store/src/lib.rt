@@ -1,5 +1,7 @@
-// The seventeen calls for programs in C and Rust: runs and lengths in, an outcome or a sheet out. include/finnedscarf.h declares them.
-// Contracts cite specs/Outcomes for the outcome, and the definitions of the crate that makes the call for the answer and for the sheet.
+// The seventeen calls for programs in C and Rust: runs and lengths in, an outcome or a sheet out. Crate store_c exports each under the same name,
+// with the same clauses. Contracts cite specs/Outcomes for the outcome, and the definitions of the crate that makes the call for the answer and for the sheet.
+#![tactic(auto)]
+
 ghost use Rattle.std.specs.Prelude.{◌≡◌};
 ghost use Rattle.table.specs.Check.{TableAnswer};
 ghost use Rattle.dtd.specs.Answer.{DtdAnswer};
@@ -70,8 +72,7 @@ fn outcome_of(answer: Answer) -> Outcome
 }
 
 // Checks a run of words: 0 and V where it is a table, else 1 to 9 or 19 and the place. All else is 0.
-#[unsafe(no_mangle)]
-pub extern "C" fn finnedscarf_check_table(words: &[u16]) -> Outcome
+pub fn finnedscarf_check_table(words: &[u16]) -> Outcome
     ensures { Told (Placed (TableAnswer words.now)) result }
 {
     let checked = check_table(words);
@@ -80,8 +81,7 @@ pub extern "C" fn finnedscarf_check_table(words: &[u16]) -> Outcome
 
 // Reads DTD text: refuses with 20 to 22, 4, 7, 19, 8, 9 or 12 and leaves the result as it was, or answers 0 and V, writes the text's table into it and
 // keeps its rest. All else is 0.
-#[unsafe(no_mangle)]
-pub extern "C" fn finnedscarf_read_dtd(text: &[u8], out: &mut [u16]) -> Outcome
+pub fn finnedscarf_read_dtd(text: &[u8], out: &mut [u16]) -> Outcome
     ensures { Told (Placed (λ n p. DtdAnswer text.now out.old 1 n p out.new)) result }
 {
     let read = read_dtd(text, out);
@@ -89,8 +89,7 @@ pub extern "C" fn finnedscarf_read_dtd(text: &[u8], out: &mut [u16]) -> Outcome
 }
 
 // Judges a policy: refuses with 1 to 11 or 19, or answers 0 with the first breach, zeros where there is none.
-#[unsafe(no_mangle)]
-pub extern "C" fn finnedscarf_judge_policy(words: &[u16], marks: &[u8]) -> Outcome
+pub fn finnedscarf_judge_policy(words: &[u16], marks: &[u8]) -> Outcome
     ensures { Told (JudgeAnswer words.now marks.now) result }
 {
     outcome_of(judge_policy(words, marks))
@@ -98,8 +97,7 @@ pub extern "C" fn finnedscarf_judge_policy(words: &[u16], marks: &[u8]) -> Outco
 
 // Completes a policy with the least permission: refuses with 1 to 12, 16 or 19 and leaves the result as it was, or writes V decided marks into it
 // and keeps its rest.
-#[unsafe(no_mangle)]
-pub extern "C" fn finnedscarf_complete(words: &[u16], marks: &[u8], out: &mut [u8]) -> Outcome
+pub fn finnedscarf_complete(words: &[u16], marks: &[u8], out: &mut [u8]) -> Outcome
     ensures { Told (λ a. CompleteAnswer words.now marks.now out.old a out.new) result }
 {
     outcome_of(complete(words, marks, out))
@@ -107,8 +105,7 @@ pub extern "C" fn finnedscarf_complete(words: &[u16], marks: &[u8], out: &mut [u
 
 // Completes the policies of as many roles as there are numbers, over one table: refuses with 1 to 10, 12 or 19 and leaves the numbers and the result as
 // they were, or writes each role's number, 0, 11 or 16, and the V decided marks of each with 0 into its own stretch of the result, and keeps all else.
-#[unsafe(no_mangle)]
-pub extern "C" fn finnedscarf_complete_roles(
+pub fn finnedscarf_complete_roles(
     words: &[u16],
     marks: &[u8],
     numbers: &mut [u16],
@@ -121,24 +118,21 @@ pub extern "C" fn finnedscarf_complete_roles(
 
 // Mends a policy: refuses with 1 to 12 or 19 and leaves the result as it was, or writes what the rule gives into it, keeps its rest, and counts the
 // marks taken.
-#[unsafe(no_mangle)]
-pub extern "C" fn finnedscarf_mend(words: &[u16], marks: &[u8], out: &mut [u8]) -> Outcome
+pub fn finnedscarf_mend(words: &[u16], marks: &[u8], out: &mut [u8]) -> Outcome
     ensures { Told (λ a. MendAnswer words.now marks.now out.old a out.new) result }
 {
     outcome_of(mend(words, marks, out))
 }
 
 // Judges a proposed mend: refuses with 1 to 11, 13 to 16 or 19, or accepts it with the number of changed marks.
-#[unsafe(no_mangle)]
-pub extern "C" fn finnedscarf_judge_mend(words: &[u16], marks: &[u8], proposed: &[u8]) -> Outcome
+pub fn finnedscarf_judge_mend(words: &[u16], marks: &[u8], proposed: &[u8]) -> Outcome
     ensures { Told (ProposeAnswer words.now marks.now proposed.now) result }
 {
     outcome_of(judge_mend(words, marks, proposed))
 }
 
 // Judges a policy given as two bit maps: refuses with the table's numbers, 10, 23 or 24, or answers 0 with the first breach, zeros where there is none.
-#[unsafe(no_mangle)]
-pub extern "C" fn finnedscarf_judge_maps(words: &[u16], allowed: &[u8], forbidden: &[u8]) -> Outcome
+pub fn finnedscarf_judge_maps(words: &[u16], allowed: &[u8], forbidden: &[u8]) -> Outcome
     ensures { Told (JudgeMapsAnswer words.now (maps allowed.now forbidden.now)) result }
 {
     outcome_of(judge_maps(words, allowed, forbidden))
@@ -146,8 +140,7 @@ pub extern "C" fn finnedscarf_judge_maps(words: &[u16], allowed: &[u8], forbidde
 
 // Completes such a policy with the least permission: refuses with the table's numbers, 10, 23, 24, 12 or 16 and leaves both result maps as they were, or
 // writes the maps of the decided marks into them and keeps their rest.
-#[unsafe(no_mangle)]
-pub extern "C" fn finnedscarf_complete_maps(
+pub fn finnedscarf_complete_maps(
     words: &[u16],
     allowed: &[u8],
     forbidden: &[u8],
@@ -161,8 +154,7 @@ pub extern "C" fn finnedscarf_complete_maps(
 
 // Mends such a policy: refuses with the table's numbers, 10, 23, 24 or 12 and leaves both result maps as they were, or writes the maps of what the rule
 // gives into them, keeps their rest, and counts the marks taken.
-#[unsafe(no_mangle)]
-pub extern "C" fn finnedscarf_mend_maps(
+pub fn finnedscarf_mend_maps(
     words: &[u16],
     allowed: &[u8],
     forbidden: &[u8],
@@ -176,8 +168,7 @@ pub extern "C" fn finnedscarf_mend_maps(
 
 // Judges a proposed mend of such a policy, two maps too: refuses with the table's numbers, 10, 23, 24 or 13 to 16, or accepts it with the number of
 // changed marks.
-#[unsafe(no_mangle)]
-pub extern "C" fn finnedscarf_judge_mend_maps(
+pub fn finnedscarf_judge_mend_maps(
     words: &[u16],
     allowed: &[u8],
     forbidden: &[u8],
@@ -198,8 +189,7 @@ pub extern "C" fn finnedscarf_judge_mend_maps(
 // Carries the marks of an old table over to a new one, by the new numbers of the old types, 65,535 for one that is gone: refuses with the old table's
 // numbers, 10, 11, the new table's raised by 100, 17, 18 or 12 and leaves both results as they were, or writes the new marks and, for each old
 // privilege, whether its mark is lost, and keeps the rest of both.
-#[unsafe(no_mangle)]
-pub extern "C" fn finnedscarf_carry_marks(
+pub fn finnedscarf_carry_marks(
     old_words: &[u16],
     old_marks: &[u8],
     new_words: &[u16],
@@ -214,13 +204,7 @@ pub extern "C" fn finnedscarf_carry_marks(
 
 // Counts the roles of a month, whose marks stand one after another: refuses with 1 to 10, 12 or 19 and leaves the counts as they were, or answers how many
 // roles are clean, break each condition and are refused, and the leaders, writes three numbers for each privilege into the counts and keeps their rest.
-#[unsafe(no_mangle)]
-pub extern "C" fn finnedscarf_month_sheet(
-    words: &[u16],
-    roles: u32,
-    marks: &[u8],
-    counts: &mut [u32],
-) -> Sheet
+pub fn finnedscarf_month_sheet(words: &[u16], roles: u32, marks: &[u8], counts: &mut [u32]) -> Sheet
     ensures { MonthAnswer words.now roles marks.now counts.old result counts.new }
 {
     month_sheet(words, roles, marks, counts)
@@ -228,8 +212,7 @@ pub extern "C" fn finnedscarf_month_sheet(
 
 // Adds two sheets, each with its counts: refuses with 1 to 9, 12, 19, 29 or 30 and leaves the counts as they were, or answers the sum, adds the second
 // sheet's counts to the first one's and keeps their rest.
-#[unsafe(no_mangle)]
-pub extern "C" fn finnedscarf_add_sheets(
+pub fn finnedscarf_add_sheets(
     words: &[u16],
     sheet: Sheet,
     counts: &mut [u32],
@@ -243,13 +226,7 @@ pub extern "C" fn finnedscarf_add_sheets(
 
 // Writes the listing of marks by DTD text and a format: refuses with 1, 20 to 22, 4, 7, 19, 8, 9, 10, 11 or 12 and leaves the result as it was, or answers 0 and the
 // listing's length, writes it into the result and keeps the rest. All else is 0.
-#[unsafe(no_mangle)]
-pub extern "C" fn finnedscarf_write_listing(
-    text: &[u8],
-    format: u16,
-    marks: &[u8],
-    out: &mut [u8],
-) -> Outcome
+pub fn finnedscarf_write_listing(text: &[u8], format: u16, marks: &[u8], out: &mut [u8]) -> Outcome
     ensures { Told (Placed (λ n p. WriteAnswer text.now format marks.now out.old n p out.new)) result }
 {
     let written = write_listing(text, format, marks, out);
@@ -258,13 +235,7 @@ pub extern "C" fn finnedscarf_write_listing(
 
 // Reads a listing by DTD text and a format: refuses with 1, 20 to 22, 4, 7, 19, 8, 9, 25, 26 or 12 and leaves the result as it was, or answers 0, writes the V marks
 // into the result and keeps the rest. All else is 0.
-#[unsafe(no_mangle)]
-pub extern "C" fn finnedscarf_read_listing(
-    text: &[u8],
-    format: u16,
-    listing: &[u8],
-    out: &mut [u8],
-) -> Outcome
+pub fn finnedscarf_read_listing(text: &[u8], format: u16, listing: &[u8], out: &mut [u8]) -> Outcome
     ensures { Told (Placed (λ n p. ReadAnswer text.now format listing.now out.old n p out.new)) result }
 {
     let told = read_listing(text, format, listing, out);
@@ -273,8 +244,7 @@ pub extern "C" fn finnedscarf_read_listing(
 
 // Edits one mark and judges by the kept entries: refuses with 1 to 12 or 19 and leaves the marks and the entries as they were, or answers 0 with the first
 // breach, zeros where there is none, writes the mark and the entries of the types that the privilege is below, and keeps all else of both.
-#[unsafe(no_mangle)]
-pub extern "C" fn finnedscarf_edit_mark(
+pub fn finnedscarf_edit_mark(
     words: &[u16],
     marks: &mut [u8],
     kept: &mut [u16],
