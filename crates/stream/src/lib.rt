@@ -58,10 +58,7 @@ pub fn next_run<R: Read>(reader: &mut R) -> io::Result<Found> {
     if read_full(reader, &mut four)? < 4 {
         return Ok(Found::Nothing);
     }
-    Ok(Found::At(length_of(
-        joined(four[0], four[1]),
-        joined(four[2], four[3]),
-    )))
+    Ok(Found::At(length_of(joined(four[0], four[1]), joined(four[2], four[3]))))
 }
 
 // The length of the next run, 0 at the end.
@@ -97,10 +94,8 @@ pub fn read_words<R: Read>(reader: &mut R, count: usize, words: &mut [u16]) -> i
     ensures length { length words.new ≡ length words.old }
 {
     let n = lesser(count, words.len());
-    let mut k = 0;
-    while k < n {
-        words[k] = next_word(reader)?;
-        k += 1;
+    for word in words[..n].iter_mut() {
+        *word = next_word(reader)?;
     }
     Ok(n)
 }
@@ -111,10 +106,8 @@ pub fn read_numbers<R: Read>(reader: &mut R, count: usize, numbers: &mut [u32]) 
     ensures length { length numbers.new ≡ length numbers.old }
 {
     let n = lesser(count, numbers.len());
-    let mut k = 0;
-    while k < n {
-        numbers[k] = next_number(reader)?;
-        k += 1;
+    for number in numbers[..n].iter_mut() {
+        *number = next_number(reader)?;
     }
     Ok(n)
 }
@@ -125,10 +118,8 @@ pub fn read_bytes<R: Read>(reader: &mut R, count: usize, run: &mut [u8]) -> io::
     ensures length { length run.new ≡ length run.old }
 {
     let n = lesser(count, run.len());
-    let mut k = 0;
-    while k < n {
-        run[k] = next_byte(reader)?;
-        k += 1;
+    for byte in run[..n].iter_mut() {
+        *byte = next_byte(reader)?;
     }
     Ok(n)
 }
