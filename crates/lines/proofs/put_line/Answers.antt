@@ -9,7 +9,7 @@ use Rattle.lines.proofs.Spaced.{one_raisable, numbers_length, marks_length}
 use Rattle.lines.proofs.put_line.Goals as goal
 
 pub put-first-requires : goal.put-first-requires
-put-first-requires c = (omega (arith, c.requires.0), λ k h. omega (arith, c.shared_slice_known-1.given k))
+put-first-requires c = (omega (arith, c.requires.0), λ k h. omega (arith, c.type_inv.word k))
 
 pub put_numbers-second-requires : goal.put_numbers-second-requires
 put_numbers-second-requires c = omega (arith, c.requires.0, (puts_as (raised_none c.args.word.now) c.put-first.ensures).end)
