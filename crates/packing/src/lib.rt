@@ -2,8 +2,9 @@
 // specs/Bytes.
 #![tactic(auto)]
 
-ghost use Rattle.std.specs.Prelude.{◌+◌, ◌*◌, ◌/◌, ◌%◌, ◌<◌, ◌≤◌, min, ◌≡◌, length, get_or, set};
-ghost use Rattle.packing.specs.Bytes.{Packed};
+ghost use Rattle.std.specs.Prelude.{◌+◌, ◌*◌, ◌/◌, ◌%◌, ◌<◌, ◌≤◌, min, ◌≡◌, length, get_or, set, OnOk};
+ghost use Rattle.std.specs.Io.KnownBytes.{Appends};
+ghost use Rattle.packing.specs.Bytes.{Packed, PutTable, refusal_line};
 
 use std::io;
 use std::io::Write;
@@ -38,7 +39,9 @@ pub fn words_of(words: &[u16; 1800]) -> usize
 }
 
 // Writes a table.
-pub fn put_table<W: Write>(out: &mut W, words: &[u16; 1800]) -> io::Result<()> {
+pub fn put_table<W: Write>(out: &mut W, words: &[u16; 1800]) -> io::Result<()>
+    ensures { OnOk result (PutTable words.now (min (get_or words.now 1 0) 1800) (W.contents out.old) (W.contents out.new)) }
+{
     let mut bytes = [0u8; 3600];
     pack(words, &mut bytes);
     let n = words_of(words);
@@ -46,7 +49,9 @@ pub fn put_table<W: Write>(out: &mut W, words: &[u16; 1800]) -> io::Result<()> {
 }
 
 // Writes a refusal: a word, the number and the place.
-pub fn put_refusal<W: Write>(out: &mut W, word: &[u8], number: u8, place: usize) -> io::Result<()> {
+pub fn put_refusal<W: Write>(out: &mut W, word: &[u8], number: u8, place: usize) -> io::Result<()>
+    ensures { OnOk result (Appends (W.contents out.old) (W.contents out.new) (refusal_line word.now number place)) }
+{
     out.write_all(word)?;
     writeln!(out, " {number} {place}")
 }
