@@ -24,13 +24,27 @@ use table::words::lesser;
 use table::{Found, check_table};
 use verdict::{Answer, judge_policy, number_of, refused};
 
+fn put(output: &mut impl Write, n: usize) -> io::Result<()> {
+    write!(output, " {n}")
+}
+
+fn put_byte(output: &mut impl Write, byte: u8) -> io::Result<()> {
+    write!(output, "{byte:02x}")
+}
+
 // A run, two hexadecimal digits a byte.
 pub(crate) fn put_run(output: &mut impl Write, run: &[u8]) -> io::Result<()> {
     write!(output, " ")?;
     for byte in run {
-        write!(output, "{byte:02x}")?;
+        put_byte(output, *byte)?;
     }
     Ok(())
+}
+
+// A chain: its length, and its 17 places as a run.
+fn put_chain(output: &mut impl Write, length: usize, chain: [u8; 17]) -> io::Result<()> {
+    put(output, length)?;
+    put_run(output, &chain)
 }
 
 pub(crate) fn put_answer(
@@ -40,28 +54,29 @@ pub(crate) fn put_answer(
     answer: Answer,
 ) -> io::Result<()> {
     write!(output, "{case} {call}")?;
-    write!(
-        output,
-        " {} {} {}",
-        answer.number, answer.place, answer.count
-    )?;
+    put(output, answer.number as usize)?;
+    put(output, answer.place)?;
+    put(output, answer.count)?;
     let breach = answer.breach;
-    write!(
-        output,
-        " {} {}",
-        number_of(breach.condition),
-        breach.element
-    )?;
-    write!(output, " {} {} {}", breach.i, breach.j, breach.privilege)?;
-    write!(output, " {} {}", breach.forbidden, breach.length)?;
-    put_run(output, &breach.chain)
+    put(output, number_of(breach.condition))?;
+    put(output, breach.element)?;
+    put(output, breach.i)?;
+    put(output, breach.j)?;
+    put(output, breach.privilege)?;
+    put(output, breach.forbidden)?;
+    put_chain(output, breach.length, breach.chain)
 }
 
-// A run of words, four hexadecimal digits a word, its low byte first.
+// A word, low byte first.
+fn put_word(output: &mut impl Write, word: u16) -> io::Result<()> {
+    write!(output, "{:04x}", word.swap_bytes())
+}
+
+// A run of words, four hexadecimal digits a word.
 pub(crate) fn put_words(output: &mut impl Write, run: &[u16]) -> io::Result<()> {
     write!(output, " ")?;
     for word in run {
-        write!(output, "{:04x}", word.swap_bytes())?;
+        put_word(output, *word)?;
     }
     Ok(())
 }
@@ -450,22 +465,32 @@ fn run_carry(case: usize, input: &mut impl Read, output: &mut impl Write) -> io:
     )
 }
 
-// A run of 32-bit numbers, eight hexadecimal digits a number, its low byte first.
+// A 32-bit number, low byte first.
+fn put_number(output: &mut impl Write, number: u32) -> io::Result<()> {
+    write!(output, "{:08x}", number.swap_bytes())
+}
+
+// A run of 32-bit numbers, eight hexadecimal digits a number.
 fn put_numbers(output: &mut impl Write, run: &[u32]) -> io::Result<()> {
     write!(output, " ")?;
     for number in run {
-        write!(output, "{:08x}", number.swap_bytes())?;
+        put_number(output, *number)?;
     }
     Ok(())
 }
 
 fn put_figures(output: &mut impl Write, figures: Figures) -> io::Result<()> {
-    let clean = figures.clean;
-    let insert_delete = figures.insert_delete;
-    let chain = figures.chain;
-    let cycle = figures.cycle;
-    let refused = figures.refused;
-    write!(output, " {clean} {insert_delete} {chain} {cycle} {refused}")
+    put(output, figures.clean as usize)?;
+    put(output, figures.insert_delete as usize)?;
+    put(output, figures.chain as usize)?;
+    put(output, figures.cycle as usize)?;
+    put(output, figures.refused as usize)
+}
+
+fn put_leaders(output: &mut impl Write, leaders: [usize; 3]) -> io::Result<()> {
+    put(output, leaders[0])?;
+    put(output, leaders[1])?;
+    put(output, leaders[2])
 }
 
 // The line of a call that answers a sheet and may write its counts.
@@ -476,10 +501,12 @@ fn put_sheet(
     sheet: Sheet,
     counts: &[u32],
 ) -> io::Result<()> {
-    write!(output, "{case} {call} {} {}", sheet.number, sheet.place)?;
+    write!(output, "{case} {call}")?;
+    put(output, sheet.number)?;
+    put(output, sheet.place)?;
     put_figures(output, sheet.figures)?;
-    let [first, second, third] = sheet.leaders;
-    write!(output, " {} {first} {second} {third}", sheet.leader_count)?;
+    put(output, sheet.leader_count as usize)?;
+    put_leaders(output, sheet.leaders)?;
     put_numbers(output, counts)?;
     writeln!(output)
 }
