@@ -1,4 +1,6 @@
 // Text put into a lent buffer. Contracts cite specs/Text, specs/Steps/Putting and crate runs.
+#![tactic(auto)]
+
 ghost use Rattle.std.specs.Prelude.{◌+◌, ◌*◌, ◌≤◌, ◌∷◌, length};
 ghost use Rattle.lines.specs.Text.{raised, decimal, numbers, marks_text, line};
 ghost use Rattle.runs.specs.Putting.{Puts};

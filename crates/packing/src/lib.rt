@@ -1,8 +1,13 @@
 // A table in a file: its words, low byte first, as judge reads them; and the line with which a program refuses its input. The contract of pack cites
 // specs/Bytes.
-ghost use Rattle.std.specs.Prelude.{◌+◌, ◌*◌, ◌/◌, ◌%◌, ◌<◌, ◌≤◌, min, ◌≡◌, length, get_or, set};
-ghost use Rattle.packing.specs.Bytes.{Packed};
+#![tactic(auto)]
 
+ghost use Rattle.std.specs.Prelude.{◌+◌, ◌*◌, ◌/◌, ◌%◌, ◌<◌, ◌≤◌, min, ◌≡◌, length, get_or, set, OnOk};
+ghost use Rattle.std.specs.Io.KnownBytes.{Appends};
+ghost use Rattle.packing.specs.Bytes.{Packed, PutTable, refusal_line};
+
+use std::io;
+use std::io::Write;
 use table::words::{lesser, word_at};
 
 // Writes a word as two bytes.
@@ -33,20 +38,20 @@ pub fn words_of(words: &[u16; 1800]) -> usize
     lesser(word_at(words, 1), 1800)
 }
 
-// Writes a table to standard output.
-pub fn put_table(words: &[u16; 1800]) {
+// Writes a table.
+pub fn put_table<W: Write>(out: &mut W, words: &[u16; 1800]) -> io::Result<()>
+    ensures { OnOk result (PutTable words.now (min (get_or words.now 1 0) 1800) (W.contents out.old) (W.contents out.new)) }
+{
     let mut bytes = [0u8; 3600];
     pack(words, &mut bytes);
     let n = words_of(words);
-    io::write_all(1, &bytes[0..2 * n]);
+    out.write_all(&bytes[0..2 * n])
 }
 
-// Writes a refusal to standard error: a word, the number and the place.
-pub fn put_refusal(word: &[u8], number: u8, place: usize) {
-    io::write_all(2, word);
-    io::write_all(2, b" ");
-    io::print_decimal(2, number as u64);
-    io::write_all(2, b" ");
-    io::print_decimal(2, place as u64);
-    io::write_all(2, b"\n");
+// Writes a refusal: a word, the number and the place.
+pub fn put_refusal<W: Write>(out: &mut W, word: &[u8], number: u8, place: usize) -> io::Result<()>
+    ensures { OnOk result (Appends (W.contents out.old) (W.contents out.new) (refusal_line word.now number place)) }
+{
+    out.write_all(word)?;
+    writeln!(out, " {number} {place}")
 }

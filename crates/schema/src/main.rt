@@ -1,17 +1,21 @@
 // Reads DTD text from standard input and writes its table: the words, low byte first, as judge reads them. A refusal is a line on standard error,
 // `dtd`, its number and its place, and no table is written.
+#![tactic(auto)]
+
 use dtd::read_dtd;
 use packing::{put_refusal, put_table};
+use std::io;
+use stream::read_full;
 
 // Of a longer text the first 65,539 bytes decide: byte 65,536 is refused, and of what is refused before it only ANY reaches behind it.
-fn main() {
+fn main(rt: HostRuntime) -> io::Result<()> {
     let mut text = [0u8; 65539];
-    let n = io::read_full(0, &mut text);
+    let n = read_full(&mut rt.reader(), &mut text)?;
     let mut words = [0u16; 1800];
     let told = read_dtd(&text[0..n], &mut words);
     if told.number > 0 {
-        put_refusal(b"dtd", told.number, told.place);
+        put_refusal(&mut rt.stderr(), b"dtd", told.number, told.place)
     } else {
-        put_table(&words);
+        put_table(&mut rt.stdout(), &words)
     }
 }
