@@ -1,4 +1,6 @@
 // What the program judge prints for a file. Contracts cite specs/File for what the file lends and specs/Report for the lines.
+#![tactic(auto)]
+
 ghost use Rattle.std.specs.Prelude.{◌+◌, ◌*◌, ◌≤◌, [], ◌++◌, ◌≡◌, length, take};
 ghost use Rattle.table.specs.Check.{Accepted};
 ghost use Rattle.policy.specs.Marks.{Policy};
