@@ -18,7 +18,7 @@ use proposing::judge_mend;
 use roles::complete_roles;
 use sheet::{Figures, Sheet, month_sheet};
 use std::io;
-use std::io::{BufReader, BufWriter, Read, Write};
+use std::io::{Read, Write};
 use stream::{next_kind, next_length, next_number, read_bytes, read_numbers, read_words};
 use table::words::lesser;
 use table::{Found, check_table};
@@ -638,8 +638,5 @@ fn run_all(input: &mut impl Read, output: &mut impl Write) -> io::Result<()> {
 }
 
 fn main(rt: HostRuntime) -> io::Result<()> {
-    let mut input = BufReader::new(rt.alloc(), rt.reader())?;
-    let mut output = BufWriter::new(rt.alloc(), io::writer(&rt))?;
-    run_all(&mut input, &mut output)?;
-    output.flush()
+    run_all(&mut rt.reader(), &mut io::writer(&rt))
 }

@@ -1,5 +1,4 @@
-// A table in a file: its words, low byte first, as judge reads them; and the line with which a program refuses its input. The contract of pack cites
-// specs/Bytes.
+// A table in a file: its words, low byte first, as judge reads them; and the line with which a program refuses its input. Contracts cite specs/Bytes.
 #![tactic(auto)]
 
 ghost use Rattle.std.specs.Prelude.{◌+◌, ◌*◌, ◌/◌, ◌%◌, ◌<◌, ◌≤◌, min, ◌≡◌, length, get_or, set, OnOk};

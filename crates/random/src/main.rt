@@ -3,7 +3,7 @@
 
 use report::report;
 use std::io;
-use std::io::{BufReader, Read};
+use std::io::Read;
 use stream::{next_run, read_bytes};
 use table::Found;
 
@@ -36,5 +36,5 @@ fn run_all(rt: &impl Print, files: &mut impl Read) -> io::Result<()> {
 }
 
 fn main(rt: HostRuntime) -> io::Result<()> {
-    run_all(&rt, &mut BufReader::new(rt.alloc(), rt.reader())?)
+    run_all(&rt, &mut rt.reader())
 }

@@ -2,8 +2,9 @@
 // there is room for.
 #![tactic(auto)]
 
-ghost use Rattle.std.specs.Prelude.{◌≡◌, ◌<◌, ◌≤◌, length, take, IfOk};
+ghost use Rattle.std.specs.Prelude.{◌≡◌, ◌<◌, ◌≤◌, ℕ, length, take, IfOk, IfErr};
 ghost use Rattle.std.specs.Io.KnownBytes.{Consumes, IsAtEnd};
+ghost use Rattle.stream.specs.Advances.{Advances};
 
 use std::io;
 use std::io::Read;
@@ -15,6 +16,7 @@ pub fn read_full<R: Read>(reader: &mut R, buffer: &mut [u8]) -> io::Result<usize
     ensures within { IfOk result (λ n. n ≤ length buffer.new) }
     ensures bytes { IfOk result (λ n. Consumes (R.remaining reader.old) (R.remaining reader.new) (take n buffer.new)) }
     ensures end { IfOk result (λ n. n < length buffer.new → IsAtEnd (R.remaining reader.new)) }
+    ensures left { IfErr result (λ _. (n : ℕ) × (n ≤ length buffer.new) × Consumes (R.remaining reader.old) (R.remaining reader.new) (take n buffer.new)) }
     ensures length { length buffer.new ≡ length buffer.old }
 {
     let mut filled = 0;
@@ -45,7 +47,9 @@ fn number_of(low: u16, high: u16) -> u32 {
 }
 
 // The kind of the next case, or nothing at the end.
-pub fn next_kind<R: Read>(reader: &mut R) -> io::Result<Found> {
+pub fn next_kind<R: Read>(reader: &mut R) -> io::Result<Found>
+    ensures { Advances (R.remaining reader.old) (R.remaining reader.new) }
+{
     let mut one = [0u8; 1];
     if read_full(reader, &mut one)? < 1 {
         return Ok(Found::Nothing);
@@ -54,7 +58,9 @@ pub fn next_kind<R: Read>(reader: &mut R) -> io::Result<Found> {
 }
 
 // The length of the next run, or nothing at the end.
-pub fn next_run<R: Read>(reader: &mut R) -> io::Result<Found> {
+pub fn next_run<R: Read>(reader: &mut R) -> io::Result<Found>
+    ensures { Advances (R.remaining reader.old) (R.remaining reader.new) }
+{
     let mut four = [0u8; 4];
     if read_full(reader, &mut four)? < 4 {
         return Ok(Found::Nothing);
@@ -63,7 +69,9 @@ pub fn next_run<R: Read>(reader: &mut R) -> io::Result<Found> {
 }
 
 // The length of the next run, 0 at the end.
-pub fn next_length<R: Read>(reader: &mut R) -> io::Result<usize> {
+pub fn next_length<R: Read>(reader: &mut R) -> io::Result<usize>
+    ensures { Advances (R.remaining reader.old) (R.remaining reader.new) }
+{
     match next_run(reader)? {
         Found::At(length) => Ok(length),
         Found::Nothing => Ok(0),
@@ -71,20 +79,26 @@ pub fn next_length<R: Read>(reader: &mut R) -> io::Result<usize> {
 }
 
 // The next byte, 0 at the end.
-fn next_byte<R: Read>(reader: &mut R) -> io::Result<u8> {
+fn next_byte<R: Read>(reader: &mut R) -> io::Result<u8>
+    ensures { Advances (R.remaining reader.old) (R.remaining reader.new) }
+{
     let mut one = [0u8; 1];
     read_full(reader, &mut one)?;
     Ok(one[0])
 }
 
 // The next word, low byte first.
-fn next_word<R: Read>(reader: &mut R) -> io::Result<u16> {
+fn next_word<R: Read>(reader: &mut R) -> io::Result<u16>
+    ensures { Advances (R.remaining reader.old) (R.remaining reader.new) }
+{
     let low = next_byte(reader)?;
     Ok(joined(low, next_byte(reader)?))
 }
 
 // The next 32-bit number, low byte first, 0 at the end.
-pub fn next_number<R: Read>(reader: &mut R) -> io::Result<u32> {
+pub fn next_number<R: Read>(reader: &mut R) -> io::Result<u32>
+    ensures { Advances (R.remaining reader.old) (R.remaining reader.new) }
+{
     let low = next_word(reader)?;
     Ok(number_of(low, next_word(reader)?))
 }
@@ -93,6 +107,7 @@ pub fn next_number<R: Read>(reader: &mut R) -> io::Result<u32> {
 pub fn read_words<R: Read>(reader: &mut R, count: usize, words: &mut [u16]) -> io::Result<usize>
     ensures within { IfOk result (λ n. n ≤ length words.new) }
     ensures length { length words.new ≡ length words.old }
+    ensures read { Advances (R.remaining reader.old) (R.remaining reader.new) }
 {
     let n = lesser(count, words.len());
     for word in words[..n].iter_mut() {
@@ -105,6 +120,7 @@ pub fn read_words<R: Read>(reader: &mut R, count: usize, words: &mut [u16]) -> i
 pub fn read_numbers<R: Read>(reader: &mut R, count: usize, numbers: &mut [u32]) -> io::Result<usize>
     ensures within { IfOk result (λ n. n ≤ length numbers.new) }
     ensures length { length numbers.new ≡ length numbers.old }
+    ensures read { Advances (R.remaining reader.old) (R.remaining reader.new) }
 {
     let n = lesser(count, numbers.len());
     for number in numbers[..n].iter_mut() {
@@ -117,6 +133,7 @@ pub fn read_numbers<R: Read>(reader: &mut R, count: usize, numbers: &mut [u32]) 
 pub fn read_bytes<R: Read>(reader: &mut R, count: usize, run: &mut [u8]) -> io::Result<usize>
     ensures within { IfOk result (λ n. n ≤ length run.new) }
     ensures length { length run.new ≡ length run.old }
+    ensures read { Advances (R.remaining reader.old) (R.remaining reader.new) }
 {
     let n = lesser(count, run.len());
     for byte in run[..n].iter_mut() {
