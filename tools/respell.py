@@ -5,7 +5,7 @@ usage: tools/respell.py            at the top of the checkout, once, right after
 
 A name is turned where a file of specs/ or proofs/ defines it (a definition, a lemma, a field, a constructor) and it has a capital or a dash inside:
 childrenAt -> children_at, root-inside -> root_inside. Functions of src/, types, modules, strings and what the toolchain names stay; the goals that a
-Proof.antt answers are left to tools/answers.py. A file that imports a library's name of the same spelling keeps it.
+Proof.antt answers keep theirs. A file that imports a library's name of the same spelling keeps it.
 It stops, and writes nothing, where two names would fall together.
 """
 import collections
