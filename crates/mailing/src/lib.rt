@@ -17,6 +17,7 @@ use table::privilege::privileges_at;
 use table::words::types;
 
 // Puts the line of privilege p of type x, whose first privilege is given, if p is set.
+#[tactic(auto, using(crate::proofs::Continuing::continues_unset))]
 fn put_privilege(
     words: &[u16],
     names: &[u8],

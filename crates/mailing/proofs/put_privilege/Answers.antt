@@ -9,14 +9,11 @@ use lib.ListN.{get_or}
 use Rattle.listing.proofs.Appending.{line_length}
 use Rattle.mailing.proofs.Naming.{names_inside}
 use Rattle.mailing.proofs.Wording.{all_brief}
-use Rattle.mailing.proofs.Continuing.{edit_line, continues_unset, continues_set}
+use Rattle.mailing.proofs.Continuing.{edit_line, continues_set}
 use Rattle.mailing.proofs.put_privilege.Goals as goal
 
 pub bounds-marks-p : goal.bounds-marks-p
 bounds-marks-p c = let p = c.requires in omega (arith, belongs_below p.1, p.0.fit.size)
-
-pub returns-then-mark-eq0 : goal.returns-then-mark-eq0
-returns-then-mark-eq0 c = continues_unset c.if-mark-eq0.true
 
 pub put_line-requires : goal.put_line-requires
 put_line-requires c = let a = c.args in
@@ -32,4 +29,4 @@ returns c = let a = c.args in
     let edit = c.named_at-edit.ensures in
     let label : ℕ → List ℕ = label_in a.names.now a.starts.now in
     let line = edit_line {p = a.p} label (get_or a.marks.now a.p 0) edit (omega (arith, p.1.from, p.2)) in
-    continues_set c.if-mark-eq0.false line (line_length p.0.accepted p.0.labelled line) c.put_line.ensures
+    continues_set (λ e. omega arith) line (line_length p.0.accepted p.0.labelled line) c.put_line.ensures

@@ -3,6 +3,7 @@ use Prim.Native.Nat.{ℕ}
 use mathlib.Core.Path.{◌≡◌, sym, ap, ◌∙◌}
 use mathlib.Core.Logic.{◌≢◌, ◌⊎◌, inl, inr}
 use native.Mathlib.Omega.{arith}
+use lib.ListN.{get_or}
 use borrow.Author.Tests.{eq-eqb, ne_eqb}
 use Rattle.table.specs.Rule.{rule_at, kind_in}
 use Rattle.table.specs.declared.rule.Rule.{Rule}
@@ -26,19 +27,19 @@ pub bounds-opened-x : goal.bounds-opened-x
 bounds-opened-x c = omega (arith, c.requires.type, (facts c.requires.policy.accepted).few)
 
 pub complete_opened-requires : goal.complete_opened-requires
-complete_opened-requires c = (c.requires, told_yes (is_open c.args.opened.now c.args.x) c.requires.told (eq-eqb _ 1 c.if-opened-x-eq1.true))
+complete_opened-requires c = (c.requires, told_yes (is_open c.args.opened.now c.args.x) c.requires.told (eq-eqb (get_or c.args.opened.now c.args.x 0) 1 (omega arith)))
 
 pub rule_at-rule-requires : goal.rule_at-rule-requires
 rule_at-rule-requires c = let visit = c.requires in has_record visit.policy.accepted visit.type
 
 pub complete_choice-requires : goal.complete_choice-requires
-complete_choice-requires c = let shut : let a = c.args in ¬ Opened a.words.now (Allowed a.m.now) a.x = told_no (is_open c.args.opened.now c.args.x) c.requires.told (ne_eqb _ 1 c.if-opened-x-eq1.false) in
+complete_choice-requires c = let shut : let a = c.args in ¬ Opened a.words.now (Allowed a.m.now) a.x = told_no (is_open c.args.opened.now c.args.x) c.requires.told (ne_eqb (get_or c.args.opened.now c.args.x 0) 1 (λ e. omega arith)) in
     let kind_here : ℕ = let a = c.args in kind_in (rule_at a.words.now a.x) in
     let kind : (r : Rule) → c.rule_at-rule.result ≡ r → kind_here ≡ kind_in r = λ r e. ap kind_in (sym c.rule_at-rule.ensures.is ∙ e) in
     (c.requires, shut, record { type = c.requires.type; kind_is = kind _ c.in-Choice.is })
 
 pub complete_star-requires : goal.complete_star-requires
-complete_star-requires c = let shut : let a = c.args in ¬ Opened a.words.now (Allowed a.m.now) a.x = told_no (is_open c.args.opened.now c.args.x) c.requires.told (ne_eqb _ 1 c.if-opened-x-eq1.false) in
+complete_star-requires c = let shut : let a = c.args in ¬ Opened a.words.now (Allowed a.m.now) a.x = told_no (is_open c.args.opened.now c.args.x) c.requires.told (ne_eqb (get_or c.args.opened.now c.args.x 0) 1 (λ e. omega arith)) in
     let kind_here : ℕ = let a = c.args in kind_in (rule_at a.words.now a.x) in
     let kind : (r : Rule) → c.rule_at-rule.result ≡ r → kind_here ≡ kind_in r = λ r e. ap kind_in (sym c.rule_at-rule.ensures.is ∙ e) in
     (c.requires, shut, record { type = c.requires.type; kind_is = kind _ c.in-Star.is })
@@ -56,7 +57,7 @@ pub returns-in-Empty : goal.returns-in-Empty
 returns-in-Empty c =
     let a = c.args in
     let neither = plain (sym c.rule_at-rule.ensures.is) c.in-Empty.is in
-    let shut : ¬ Opened a.words.now (Allowed a.m.now) a.x = told_no (is_open c.args.opened.now c.args.x) c.requires.told (ne_eqb _ 1 c.if-opened-x-eq1.false) in
+    let shut : ¬ Opened a.words.now (Allowed a.m.now) a.x = told_no (is_open c.args.opened.now c.args.x) c.requires.told (ne_eqb (get_or c.args.opened.now c.args.x 0) 1 (λ e. omega arith)) in
     record {
       kids = kids_none c.requires.size (λ i l. plain_passes shut neither.0 neither.1);
       own = plain_own c.requires shut neither.0 neither.1 c.privileges_at.ensures.is c.write_range.ensures;
