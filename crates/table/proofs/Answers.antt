@@ -9,6 +9,7 @@ use lib.ListN.{get_or}
 use Rattle.table.specs.Lowest.{LowestAt}
 use Rattle.table.specs.Privilege.{privileges}
 use Rattle.table.specs.Check.{number_of, rank_of, Passes, Refused, Accepted, TableAnswer, refused, accepted}
+use Rattle.table.specs.declared.check.TheConstants.{CHECKS}
 use Rattle.table.specs.declared.check.Check.{Check}
 use Rattle.table.specs.declared.check.Check.TheVariants.{Format, Layout, Kind, Count, Stretch, Bounds, Twice, Cycle, Unreached, Total}
 use Rattle.table.proofs.Lists.{le_or_lt}
@@ -33,6 +34,10 @@ check_of_lem Total = refl
 -- and that check has the rank
 pub check_rank : (k : ℕ) → k < 10 → rank_of (check_of (k + 1)) ≡ k + 1
 check_rank = (every 10 (λ k. is_equal (rank_of (check_of (k + 1))) (k + 1))).out tt
+
+-- the checks stand in the order of their ranks
+pub rank_at : (k : ℕ) → k < 10 → rank_of (get_or CHECKS k Format) ≡ k + 1
+rank_at = (every 10 (λ k. is_equal (rank_of (get_or CHECKS k Format)) (k + 1))).out tt
 
 pub rank_inj : (c d : Check) → rank_of c ≡ rank_of d → c ≡ d
 rank_inj c d e = sym (check_of_lem c) ∙ ap check_of e ∙ check_of_lem d
