@@ -9,6 +9,9 @@ use lib.ListN.{get_or}
 use Rattle.table.specs.Lowest.{LowestAt}
 use Rattle.table.specs.Privilege.{privileges}
 use Rattle.table.specs.Check.{number_of, rank_of, Passes, Refused, Accepted, TableAnswer, refused, accepted}
+use Rattle.table.specs.Refusals as refusals
+use Rattle.table.specs.declared.refusal.Refusal.{Refusal}
+use Rattle.table.specs.declared.refusal.Refusal.TheVariants.{Table, NewTable, MarksLength, NoPrivilege, Mark, ResultLength, ProposedLength, ProposedMark, ProposedSpareBit, Change, NumbersLength, NewNumber, NoText, TooLarge, Misnamed, BothSet, SpareBit, NoLine, NotAbove, RefusedSheet, SumTooLarge}
 use Rattle.table.specs.declared.check.TheConstants.{CHECKS}
 use Rattle.table.specs.declared.check.Check.{Check}
 use Rattle.table.specs.declared.check.Check.TheVariants.{Format, Layout, Kind, Count, Stretch, Bounds, Twice, Cycle, Unreached, Total}
@@ -53,6 +56,30 @@ number_some Twice = omega arith
 number_some Cycle = omega arith
 number_some Unreached = omega arith
 number_some Total = omega arith
+
+-- a refusal's number is not 0
+pub refusal_some : (r : Refusal) → 1 ≤ refusals.number_of r
+refusal_some (Table c _) = omega (arith, number_some c)
+refusal_some (NewTable c _) = omega arith
+refusal_some MarksLength = omega arith
+refusal_some NoPrivilege = omega arith
+refusal_some (Mark _) = omega arith
+refusal_some ResultLength = omega arith
+refusal_some ProposedLength = omega arith
+refusal_some (ProposedMark _) = omega arith
+refusal_some ProposedSpareBit = omega arith
+refusal_some (Change _) = omega arith
+refusal_some NumbersLength = omega arith
+refusal_some (NewNumber _) = omega arith
+refusal_some (NoText _) = omega arith
+refusal_some (TooLarge _) = omega arith
+refusal_some (Misnamed _) = omega arith
+refusal_some (BothSet _) = omega arith
+refusal_some SpareBit = omega arith
+refusal_some (NoLine _) = omega arith
+refusal_some (NotAbove _) = omega arith
+refusal_some (RefusedSheet _) = omega arith
+refusal_some (SumTooLarge _) = omega arith
 
 pub rank_range : (c : Check) → (1 ≤ rank_of c) × (rank_of c < 11)
 rank_range Format = omega arith
