@@ -8,10 +8,11 @@ use lib.ListN.{length, get_or, get_or-eq_default}
 use Rattle.table.specs.Privilege.{privileges}
 use Rattle.table.specs.Check.{Accepted, TableAnswer}
 use Rattle.table.proofs.Lists.{le_or_lt}
-use Rattle.table.proofs.Answers.{answer_one, answer_accepted, accepted_answer, lowest_one}
+use Rattle.table.proofs.Answers.{answer_one, answer_accepted, accepted_answer, lowest_one, refusal_not}
 use Rattle.policy.specs.Marks.{Fit, Unfit, length_off, mark_above, Policy, NoPolicy, table, marks}
 use Rattle.std.specs.Prelude.{Err}
 use Rattle.table.specs.Refusals.{number_of, place_of}
+use Rattle.table.specs.declared.refusal.Refusal.{Refusal}
 use Rattle.policy.specs.Misfits.{refusal_of, misfit_number, misfit_place}
 use Rattle.policy.specs.declared.marks.Misfit.{Misfit}
 use Rattle.policy.specs.declared.marks.Misfit.TheVariants.{Length, Mark}
@@ -86,3 +87,7 @@ module _ {ws ms : List ℕ} where
   pub policy_fits : {n p : ℕ} → n ≡ 0 → PolicyAnswer ws ms n p → Policy ws ms × (p ≡ privileges ws)
   policy_fits e (refused r) = absurd (refused_number r e)
   policy_fits e (fits pol f v) = (pol, v)
+
+  -- a refusal is one
+  pub policy_none : (r : Refusal) → PolicyAnswer ws ms (number_of r) (place_of r) → NoPolicy ws ms (number_of r) (place_of r)
+  policy_none r = policy_refused (refusal_not r)

@@ -1,7 +1,7 @@
 -- The answer of a table check: there is one for each run of words, and number 0 means an accepted table. Assumes nothing.
 use Prim.Native.Nat.{ℕ, suc, ◌+◌, ◌≤◌, ◌<◌}
 use mathlib.Core.Path.{◌≡◌, refl, sym, ap, ◌∙◌}
-use mathlib.Core.Logic.{◌⊎◌, inl, inr}
+use mathlib.Core.Logic.{◌⊎◌, inl, inr, ◌≢◌}
 use mathlib.Core.List.{List, [], ◌∷◌}
 use native.Mathlib.Nat.{eq-or-lt_of_le}
 use native.Mathlib.Omega.{arith}
@@ -80,6 +80,9 @@ refusal_some (NoLine _) = omega arith
 refusal_some (NotAbove _) = omega arith
 refusal_some (RefusedSheet _) = omega arith
 refusal_some (SumTooLarge _) = omega arith
+
+pub refusal_not : (r : Refusal) → refusals.number_of r ≢ 0
+refusal_not r e = omega (arith, refusal_some r, e)
 
 pub rank_range : (c : Check) → (1 ≤ rank_of c) × (rank_of c < 11)
 rank_range Format = omega arith
