@@ -1,5 +1,6 @@
 -- No mark is above 2, or the loop has passed none. Assumes nothing.
-use Rattle.table.proofs.Lowest.{passed_start, passed_all, told_yes}
+use Rattle.table.proofs.Lowest.{passed_start, passed_more, passed_hit, passed_all, told_yes}
+use native.Mathlib.Omega.{arith}
 use Rattle.policy.proofs.marks.lowest_above.Goals as goal
 
 pub returns-then-none_above : goal.returns-then-none_above
