@@ -20,10 +20,8 @@ pub fn none_above(marks: &[u8], most: u8) -> bool
     ensures { Tells ((p : ℕ) → p < length marks.now → get_or marks.now p 0 ≤ most) result }
 {
     let mut none = true;
-    let mut p = 0;
-    while p < marks.len() {
-        none = none & (marks[p] <= most);
-        p += 1;
+    for mark in marks {
+        none &= *mark <= most;
     }
     none
 }
@@ -90,9 +88,5 @@ pub fn copy(marks: &[u8], m: &mut [u8])
     requires { length m.old ≡ length marks.now }
     ensures { m.new ≡ marks.now }
 {
-    let mut p = 0;
-    while p < marks.len() {
-        m[p] = marks[p];
-        p += 1;
-    }
+    m.copy_from_slice(marks);
 }

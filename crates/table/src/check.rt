@@ -162,14 +162,7 @@ fn follows(words: &[u16], t: usize) -> bool
 fn inside(kids: &[u16], e: usize) -> bool
     ensures { Tells (Inside e kids.now) result }
 {
-    let mut i = 0;
-    while i < kids.len() {
-        if e <= word_at(kids, i) {
-            return false;
-        }
-        i += 1;
-    }
-    true
+    kids.iter().all(|kid| usize::from(*kid) < e)
 }
 
 // Does the child at j differ from those before it?
@@ -177,27 +170,13 @@ fn is_new(kids: &[u16], j: usize) -> bool
     ensures { Tells ((i : ℕ) → i < j → get_or kids.now i 0 ≢ get_or kids.now j 0) result }
 {
     let child = word_at(kids, j);
-    let mut i = 0;
-    while i < j {
-        if word_at(kids, i) == child {
-            return false;
-        }
-        i += 1;
-    }
-    true
+    (0..j).all(|i| word_at(kids, i) != child)
 }
 
 fn differ(kids: &[u16]) -> bool
     ensures { Tells (Differ kids.now) result }
 {
-    let mut j = 0;
-    while j < kids.len() {
-        if !is_new(kids, j) {
-            return false;
-        }
-        j += 1;
-    }
-    true
+    (0..kids.len()).all(|j| is_new(kids, j))
 }
 
 fn is_counted(words: &[u16]) -> bool

@@ -24,11 +24,9 @@ fn others_of(rule: Rule, star: usize) -> usize
     ensures { result ≡ others_of star rule }
 {
     match rule {
-        Rule::Empty => 0,
+        Rule::Empty | Rule::Sequence { .. } | Rule::Choice { .. } => 0,
         Rule::Text => 1,
-        Rule::Sequence { first: _, count: _ } => 0,
-        Rule::Choice { first: _, count: _ } => 0,
-        Rule::Star { first: _, count: _ } => star,
+        Rule::Star { .. } => star,
     }
 }
 
@@ -37,11 +35,8 @@ fn choices_of(rule: Rule) -> usize
     ensures { result ≡ choices_of rule }
 {
     match rule {
-        Rule::Empty => 0,
-        Rule::Text => 0,
-        Rule::Sequence { first: _, count: _ } => 0,
-        Rule::Choice { first: _, count } => count,
-        Rule::Star { first: _, count: _ } => 0,
+        Rule::Choice { count, .. } => count,
+        Rule::Empty | Rule::Text | Rule::Sequence { .. } | Rule::Star { .. } => 0,
     }
 }
 
@@ -79,10 +74,8 @@ pub fn first_privilege(words: &[u16], x: usize) -> usize
     ensures { Within 281474976710656 (first_privilege words.now x) result }
 {
     let mut sum = 0;
-    let mut y = 0;
-    while y < x {
+    for y in 0..x {
         sum += privileges_at(words, y);
-        y += 1;
     }
     sum
 }
@@ -102,11 +95,9 @@ pub fn first_privileges(words: &[u16], firsts: &mut [u16; 256])
 {
     let e = types(words);
     let mut first = 0;
-    let mut x = 0;
-    while x < e {
+    for x in 0..e {
         firsts[x] = first as u16;
         first += privileges_at(words, x);
-        x += 1;
     }
 }
 
@@ -124,7 +115,7 @@ pub fn numbers_at(words: &[u16], x: usize, first: usize) -> Numbering
     ensures { NumberedAs words.now x result }
 {
     Numbering {
-        first: first,
+        first,
         count: record_word(words, x, 1),
         gap: gap_of(words),
     }
