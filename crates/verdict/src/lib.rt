@@ -37,7 +37,7 @@ pub fn number_of(condition: Condition) -> usize
     }
 }
 
-// Where a breach is: the condition, the type at which it is broken, and the two positions there. All 0 where there is none.
+// Where a breach is: the condition, the type at which it is broken, and the two positions there.
 #[derive(Clone, Copy)]
 pub struct Spot {
     pub condition: Condition,
