@@ -2,7 +2,7 @@
 // and specs/Steps/Entering for the parts.
 #![tactic(auto)]
 
-ghost use Rattle.std.specs.Prelude.{◌≡◌, ◌+◌, ◌/◌, ◌≤◌, ◌<◌, min, length};
+ghost use Rattle.std.specs.Prelude.{◌≡◌, ◌+◌, ◌/◌, ◌≤◌, ◌<◌, length};
 ghost use Rattle.table.specs.Steps.Found.{Tells};
 ghost use Rattle.leaders.specs.Leaders.{LeadersOf, often_of};
 ghost use Rattle.leaders.specs.Steps.Entering.{LeadersBelow, Behind, Bar};

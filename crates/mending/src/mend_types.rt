@@ -17,7 +17,6 @@ use table::Found;
 use table::privilege::{Numbering, gap_of, numbers_at, privileges_in, replacement};
 use table::rule::{Rule, children, rule_at};
 use table::words::types;
-use verdict::breaches::Pair;
 use verdict::spoilt::flag_spoilt;
 
 // Mends the star x, whose child can be renewed: what the rule takes is forbidden, and once more if it still has a breach.
@@ -80,7 +79,7 @@ fn mend_choice(
     loop {
         let square = reached_by(words, m, x, n, allowed);
         let taken = next_taken(words, m, flags, x, kids, n, &square, &allowed, &forbidden);
-        let Pair::At(i, k) = taken else {
+        let Some((i, k)) = taken else {
             return count;
         };
         m[replacement(n, i, k)] = 2;
