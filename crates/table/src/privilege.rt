@@ -12,6 +12,7 @@ use super::rule::{Rule, rule_at};
 use super::words::{record_word, types};
 
 // How many kinds there are by which a child cannot be replaced: in format 2 none, else one, its own.
+#[tactic(auto, unfolding(crate::specs::Privilege::gap_of))]
 pub fn gap_of(words: &[u16]) -> usize
     requires { 0 < length words.now }
     ensures { Within 2 (gap_of words.now) result }
@@ -53,6 +54,7 @@ pub(crate) fn privileges_of(rule: Rule, gap: usize) -> usize
 }
 
 // How many privileges type x has, by the gap, for who asks it of many types.
+#[tactic(auto, using(crate::proofs::Privileges::gap_few), unfolding(crate::specs::Privilege::privileges_at))]
 pub fn privileges_in(words: &[u16], x: usize, gap: usize) -> usize
     requires { HasRecord words.now x × (gap ≡ gap_of words.now) }
     ensures { Within 4294967296 (privileges_at words.now x) result }
@@ -69,6 +71,7 @@ pub fn privileges_at(words: &[u16], x: usize) -> usize
 }
 
 // The first privilege of type x: how many the types before it have.
+#[tactic(auto, using(crate::proofs::Sum::sum_more), unfolding(crate::specs::Privilege::first_privilege, crate::specs::Sum::sum_below))]
 pub fn first_privilege(words: &[u16], x: usize) -> usize
     requires { Laid words.now × (x ≤ types words.now) }
     ensures { Within 281474976710656 (first_privilege words.now x) result }
@@ -81,6 +84,7 @@ pub fn first_privilege(words: &[u16], x: usize) -> usize
 }
 
 // V, the number of privileges.
+#[tactic(auto, unfolding(crate::specs::Privilege::privileges))]
 pub(crate) fn privileges(words: &[u16]) -> usize
     requires { Laid words.now }
     ensures { Within 281474976710656 (privileges words.now) result }

@@ -5,7 +5,7 @@ use Rattle.table.specs.Words.{kind_at, first_at, count_at}
 use Rattle.table.specs.Steps.Reading.{Widened}
 use Rattle.table.proofs.Lowest.{told_yes}
 use Rattle.table.proofs.Rules.{count_small}
-use Rattle.table.proofs.Stamps.{Read, read_children, read_few, read_privileges, types_start, types_leaf, types_more, types_all}
+use Rattle.table.proofs.Stamps.{Read, read_children, read_privileges, types_start, types_leaf, types_more, types_all}
 use Rattle.table.proofs.accept.types_pass.Goals as goal
 
 -- the record of type n, as it was read
@@ -20,12 +20,6 @@ pub loop-t-preserved-then-count-eq0 : goal.loop-t-preserved-then-count-eq0
 loop-t-preserved-then-count-eq0 c =
     let first_is : Widened (first_at c.args.words.now c.loop-t.t) c.loop-t.index = rw c.if-record_word-index.false at c.record_word.ensures in
     types_leaf c.loop-t.invariant c.record_word-kind.ensures first_is (rw c.if-count-eq0.true at c.record_word-count.ensures) c.if-kind-gt1.false c.types-e.ensures.is c.loop-t-test.true
-
-pub stamp_children-requires : goal.stamp_children-requires
-stamp_children-requires c =
-    let read = was_read c.args.words.now c.loop-t.t c.record_word-kind.ensures c.record_word.ensures c.if-record_word-index.false c.record_word-count.ensures c.if-not-is_right.ensures in
-    let from : ℕ = 8 + 3 * c.types-e.result + c.loop-t.index in
-    (c.loop-t-test.true, rw c.types-e.ensures.is c.requires.0.few, read_few read from _ (omega arith) refl, c.loop-t.invariant.countable)
 
 pub privileges_of-sum-requires : goal.privileges_of-sum-requires
 privileges_of-sum-requires c =

@@ -1,6 +1,6 @@
 -- The loop passes the types listed, one after another. Assumes nothing.
 use Rattle.std.proofs.Common.{refl, arith}
-use Rattle.table.proofs.Marks.{flags_none, inside_256, mark_start, mark_asks, mark_more, mark_all}
+use Rattle.table.proofs.Marks.{flags_none, inside_256, mark_start, mark_more, mark_all}
 use Rattle.table.proofs.Listings.{listed_within}
 use Rattle.table.proofs.Children.{tiled_children}
 use Rattle.table.proofs.below.mark_below.Goals as goal
@@ -16,9 +16,6 @@ bounds-order-head c = omega (arith, listed_within c.loop-head.invariant.flags.li
 
 pub children-kids-requires : goal.children-kids-requires
 children-kids-requires c = rw c.from.ensures (tiled_children c.requires.0.tiled _ (c.loop-head.invariant.inside c.loop-head.head c.loop-head-test.true))
-
-pub add_kids-n-requires-in-loop-head : goal.add_kids-n-requires-in-loop-head
-add_kids-n-requires-in-loop-head c = mark_asks c.requires.0 c.loop-head.invariant c.loop-head-test.true (rw c.from.ensures at c.children-kids.ensures)
 
 pub loop-head-smaller : goal.loop-head-smaller
 loop-head-smaller c = omega (arith, listed_within c.loop-head.invariant.flags.listed)

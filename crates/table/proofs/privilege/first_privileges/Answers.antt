@@ -36,10 +36,3 @@ loop-x-preserved c =
       written = fill_more (λ j r. r ≡ first_privilege c.args.words.now j) c.loop-x.firsts c.loop-x.x _ (omega (arith, (facts c.requires.0).few)) s.written s.first_is;
       rest = λ j l. get_or-set_other c.loop-x.firsts c.loop-x.x j _ 0 (omega arith) ∙ s.rest j l;
     }
-
-pub returns : goal.returns
-returns c = record {
-  size = c.loop-x.invariant.size;
-  each = λ x l. c.loop-x.invariant.written x (omega arith);
-  rest = λ x l. c.loop-x.invariant.rest x (omega arith);
-}

@@ -8,9 +8,6 @@ use Rattle.table.proofs.privilege.numbers_at.Goals as goal
 pub record_word-requires : goal.record_word-requires
 record_word-requires c = let p = c.requires in (has_record p.0 p.1, omega arith)
 
-pub gap_of-requires : goal.gap_of-requires
-gap_of-requires c = let p = c.requires in omega (arith, has_record p.0 p.1)
-
 pub returns : goal.returns
 returns c = let a = c.args in
     let f = facts c.requires.0 in
