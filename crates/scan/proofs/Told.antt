@@ -9,8 +9,9 @@ use borrow.Author.Tests.{eqb-true, eq-eqb}
 use Rattle.grammar.specs.Bytes.{Byte, Of, Span, stop, go_on, byte}
 use Rattle.grammar.proofs.Pieces.{true_false}
 use Rattle.scan.specs.Steps.Readers.{Tells, later, WordRead}
-use Rattle.scan.specs.declared.Step.{Step}
-use Rattle.scan.specs.declared.Step.TheVariants.{At, Bad, Over}
+use Rattle.scan.specs.declared.Stop.{Stop}
+use Rattle.std.proofs.Common.{Result, Ok, Err}
+use Rattle.scan.specs.declared.Stop.TheVariants.{Bad, Over}
 
 pub of_told : (class : ℕ → Bool) (t : List ℕ) (a : ℕ) → a < length t → (r : Bool) → r ≡ class (get_or t a 0) → Tells (Of class t a) r
 of_told class t a l true e = record { within = l; is = sym e }
@@ -33,7 +34,7 @@ span_more stop o = go_on o stop
 span_more (go_on p s) o = go_on p (span_more s o)
 
 -- a word and one byte before it
-pub word_more : (t cs : List ℕ) (c i : ℕ) → Byte t i c → (r : Step) → WordRead t cs (suc i) r → WordRead t (c ∷ cs) i r
-word_more t cs c i b (At e) x = (x.0, byte b x.1)
-word_more t cs c i b (Bad k) x = later b x
-word_more t cs c i b (Over k) x = absurd x
+pub word_more : (t cs : List ℕ) (c i : ℕ) → Byte t i c → (r : Result ℕ Stop) → WordRead t cs (suc i) r → WordRead t (c ∷ cs) i r
+word_more t cs c i b (Ok e) x = (x.0, byte b x.1)
+word_more t cs c i b (Err (Bad k)) x = later b x
+word_more t cs c i b (Err (Over k)) x = absurd x
