@@ -33,6 +33,9 @@ reads_moves (got m) = m
 pub handed_on : {T : Type 0} (r : Result T Stop) {s : Stop} → IsErrAnd r (λ e. e ≡ s) → r ≡ Err s
 handed_on r x = let p = err_from_is_err_and r x in p.1 ∙ ap Err p.2
 
+pub reads_refused : {P Q R : Claim} {t : List ℕ} {a : ℕ} (r : Result ℕ Stop) {s : Stop} → IsErrAnd r (λ e. e ≡ s) → Reads P Q t a (Err s) → Reads P R t a r
+reads_refused r h x = rw (handed_on r h) (reads_other x)
+
 -- what follows a particle begins with neither a name nor a mark
 pub rest_no_name : (fs : List Frame) → Avoids is_name_byte (Rest fs)
 rest_no_name [] = end_avoids is_name_byte refl space_no_name

@@ -126,19 +126,17 @@ fn remark(s: &[u8], at: usize) -> Result<usize, Stop>
     ensures { (seen : Bool) → Reads (FromRemark seen) (FromItems seen) s.now at result }
 {
     let mut i = at;
+    // A loop: a '-' and the byte behind it are passed at once.
     loop {
         if is(s, i, b'-') {
-            if is_of(s, i + 1, Class::Other) {
-                i += 2;
-            } else {
+            if !is_of(s, i + 1, Class::Other) {
                 return word(s, i + 1, b"->");
             }
+            i += 2;
+        } else if is_of(s, i, Class::Other) {
+            i += 1;
         } else {
-            if is_of(s, i, Class::Other) {
-                i += 1;
-            } else {
-                return Err(Stop::Bad(i));
-            }
+            return Err(Stop::Bad(i));
         }
     }
 }
@@ -192,6 +190,7 @@ pub(crate) fn items(s: &[u8]) -> Result<usize, Stop>
 {
     let mut i = 0;
     let mut seen = false;
+    // A loop: items have any length.
     loop {
         let b = blanks(s, i);
         if b == s.len() {

@@ -11,11 +11,12 @@ pub fn blanks(s: &[u8], at: usize) -> usize
     requires { at ≤ length s.now }
     ensures { BlanksRead s.now at result }
 {
-    let mut i = at;
-    while is_of(s, i, Class::Space) {
-        i += 1;
+    for i in at..s.len() {
+        if !is_of(s, i, Class::Space) {
+            return i;
+        }
     }
-    i
+    s.len()
 }
 
 // White space, one byte or more.
@@ -59,14 +60,15 @@ fn name_rest(s: &[u8], at: usize) -> Result<usize, Stop>
     requires { Of is_name_start s.now at }
     ensures { NameRead s.now at result }
 {
-    let mut i = at + 1;
-    while is_of(s, i, Class::Name) {
+    for i in at + 1..s.len() {
+        if !is_of(s, i, Class::Name) {
+            return Ok(i);
+        }
         if i - at == 32 {
             return Err(Stop::Over(i));
         }
-        i += 1;
     }
-    Ok(i)
+    Ok(s.len())
 }
 
 // A name.

@@ -1,12 +1,12 @@
 -- White space behind the name, then the rest.
 use Rattle.std.proofs.Common.{Ok, Err}
 use Rattle.scan.proofs.Moving.{reads_on}
-use Rattle.scan.proofs.Readings.{reads_moves, reads_other, handed_on}
+use Rattle.scan.proofs.Readings.{reads_moves, reads_refused}
 use Rattle.scan.proofs.Declared.{named_space}
 use Rattle.scan.proofs.item.from_named.Goals as goal
 
 pub returns-in_err-e : goal.returns-in_err-e
-returns-in_err-e c = rw (handed_on c.from_residual.result c.from_residual.ensures.1) (reads_other (named_space c.requires (Err _) c.in_err-e.ensures))
+returns-in_err-e c = reads_refused c.from_residual.result c.from_residual.ensures.1 (named_space c.requires (Err _) c.in_err-e.ensures)
 
 pub returns : goal.returns
 returns c = reads_on (reads_moves (named_space c.requires (Ok _) c.in_ok-e.ensures)) c.from_content.ensures
