@@ -7,25 +7,25 @@ ghost use Rattle.scan.specs.Steps.Readers.{Tells};
 fn is_space(b: u8) -> bool
     ensures { result ≡ is_space b }
 {
-    matches!(b, b' ' | b'\t' | b'\r' | b'\n')
+    b == b' ' || b == b'\t' || b == b'\r' || b == b'\n'
 }
 
 fn is_name_start(b: u8) -> bool
     ensures { result ≡ is_name_start b }
 {
-    matches!(b, b':' | b'_' | b'A'..=b'Z' | b'a'..=b'z')
+    b == b':' || b == b'_' || b.is_ascii_alphabetic()
 }
 
 fn is_name_byte(b: u8) -> bool
     ensures { result ≡ is_name_byte b }
 {
-    is_name_start(b) || matches!(b, b'-' | b'.' | b'0'..=b'9')
+    is_name_start(b) || b == b'-' || b == b'.' || b.is_ascii_digit()
 }
 
 fn is_mark(b: u8) -> bool
     ensures { result ≡ is_mark b }
 {
-    matches!(b, b'?' | b'*' | b'+')
+    b == b'?' || b == b'*' || b == b'+'
 }
 
 fn is_no_dash(b: u8) -> bool
