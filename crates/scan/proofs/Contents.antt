@@ -1,13 +1,7 @@
 -- What a declaration holds: EMPTY, ANY, text, mixed content and children. Assumes nothing.
-use Prim.Native.Nat.{ℕ, suc, ◌+◌, ◌≤◌, ◌<◌}
+use Rattle.std.proofs.Common.{ℕ, suc, ◌+◌, ◌≤◌, ◌<◌, ◌≡◌, refl, sym, ◌∙◌, ap, inl, inr, List, [], ◌∷◌, arith, eqb→eq, length, get_or, Err}
 use Prim.Native.Char.{code}
-use mathlib.Core.Path.{◌≡◌, refl, sym, ◌∙◌, ap}
-use mathlib.Core.Logic.{inl, inr}
-use mathlib.Core.List.{List, [], ◌∷◌}
-use native.Mathlib.Omega.{arith}
-use lib.Dec.{eqb→eq}
-use lib.ListN.{length, get_or}
-use lib.Seq.{slice}
+use Rattle.std.proofs.Math.Seq.{slice}
 use Rattle.grammar.specs.Bytes.{ascii, is_space, is_name_start, is_mark, Byte, Of, stop, Literal, done, byte}
 use Rattle.grammar.specs.Tree.{Particle, Particles, Use, Content, is-empty, is_text, is_any, is_mixed, is_children}
 use Rattle.grammar.specs.Grammar.{Blanks, Children, as_choice, as_sequence, Names, no_name, one_name, Pcdata, Spec, spec_empty, spec_any, spec_text, spec_starred, spec_mixed, spec_children}
@@ -18,7 +12,6 @@ use Rattle.scan.specs.Steps.Claims.{Mode, plain, limit, Claim, With, behind_it, 
 use Rattle.scan.specs.Steps.Claims.{WideIn, Inside, of_choice, of_sequence, InsideThen, Mixed, mixed, MixedLimit, ContentLimit, SpecThen, is_star, TextThen, GroupThen}
 use Rattle.scan.specs.Steps.Moves.{Exceeds, Free, Moves, Reads, bad, over}
 use Rattle.scan.specs.Steps.Readers.{Differs, here, later}
-use Rattle.std.proofs.Common.{Result, Err}
 use Rattle.scan.specs.declared.Stop.TheVariants.{Bad, Over}
 use Rattle.grammar.proofs.Stopping.{le_or_lt}
 use Rattle.scan.proofs.Agreeing.{peek_byte, agree_sym, byte_local, span_le, literal_local}

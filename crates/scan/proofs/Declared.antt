@@ -1,24 +1,16 @@
 -- What the readers of contents, declarations and comments answer, one after another. Assumes nothing.
-use Prim.Native.Nat.{ℕ, suc, ◌≤◌, ◌<◌}
+use Rattle.std.proofs.Common.{ℕ, suc, ◌≤◌, ◌<◌, ◌≡◌, refl, sym, ap, subst, Bool, true, false, List, [], arith, length, eqb-true, Result, Ok, Err}
 use Prim.Native.Char.{code}
-use mathlib.Core.Path.{◌≡◌, refl, sym, ap, subst}
-use mathlib.Core.Logic.{◌≢◌}
-use mathlib.Core.Bool.{Bool, true, false}
-use mathlib.Core.List.{List, []}
-use native.Mathlib.Omega.{arith}
-use lib.ListN.{length}
-use borrow.Author.Tests.{eqb-true}
 use Rattle.grammar.specs.Bytes.{ascii, is_mark, is_no_dash, Byte, Of, Literal, done, byte}
 use Rattle.grammar.specs.Tree.{Declaration}
 use Rattle.grammar.specs.Grammar.{element, Items, no_more, a_space, a_comment, a_declaration}
-use Rattle.grammar.proofs.Pieces.{true_false, avoid, space_no_name, literal_start}
+use Rattle.grammar.proofs.Pieces.{avoid, space_no_name, literal_start}
 use Rattle.scan.specs.Steps.Claims.{Mode, plain, limit, Claim, InSome, BlanksThen, GroupThen, NameThen, MaybeThen, InsideThen, TextThen, PcdataThen, SpecThen, is_star, FromItems, FromEnd, FromNamed, FromElement, FromKeyword, FromRemark, FromDashes, FromOpen, FromItem}
 use Rattle.scan.specs.Steps.Agree.{Agree}
 use Rattle.scan.specs.Steps.Moves.{Moves, Reads, got}
 use Rattle.scan.specs.Steps.Readers.{BlanksRead, SpaceRead, MaybeRead, taken, left, NameRead, WordRead}
 use Rattle.scan.specs.Steps.Items.{Told, ItemRead, declared_of, remarked_of, finish_of, Nothing, ItemsRead}
 use Rattle.scan.specs.declared.Stop.{Stop}
-use Rattle.std.proofs.Common.{Result, Ok, Err}
 use Rattle.scan.specs.declared.Stop.TheVariants.{Bad, Over}
 use Rattle.scan.specs.declared.item.Item.{Item}
 use Rattle.scan.specs.declared.item.Item.TheVariants.{Declared, Remarked}

@@ -1,14 +1,7 @@
 -- Particles, choices and sequences: the moves from a particle into its group, from one particle of a row to the next, and to its `)`. Assumes nothing.
-use Prim.Native.Nat.{ℕ, zero, suc, ◌≤◌}
+use Rattle.std.proofs.Common.{ℕ, zero, suc, ◌≤◌, ◌≡◌, refl, ap, inl, inr, Bool, true, false, ◌||◌, List, [], ◌∷◌, arith, eqb, eqb→eq, length, get_or, Err}
 use Prim.Native.Char.{code}
-use mathlib.Core.Path.{◌≡◌, refl, ap}
-use mathlib.Core.Logic.{inl, inr}
-use mathlib.Core.Bool.{Bool, true, false, ◌||◌}
-use mathlib.Core.List.{List, [], ◌∷◌}
-use native.Mathlib.Omega.{arith}
-use lib.Dec.{eqb, eqb→eq}
-use lib.ListN.{length, get_or}
-use lib.Seq.{slice}
+use Rattle.std.proofs.Math.Seq.{slice}
 use Rattle.grammar.specs.Bytes.{ascii, is_space, is_name_start, is_mark, Byte, Of, stop, Literal, done, byte}
 use Rattle.grammar.specs.Tree.{Mark, Particle, Particles, name, choice, sequence, last, more}
 use Rattle.grammar.specs.Grammar.{Blanks, Name, MarkAt, no_mark, question, asterisk, plus, Cp, cp_name, cp_group, Children, as_choice, as_sequence, Row, closed, separated}
@@ -18,7 +11,6 @@ use Rattle.scan.specs.Steps.Agree.{Agree}
 use Rattle.scan.specs.Steps.Claims.{Mode, plain, limit, Claim, With, behind_it, in_it, this, that, LiteralThen, BlanksThen, Maybe, one, none, MaybeThen, LongAt, NameThen}
 use Rattle.scan.specs.Steps.Claims.{WideAt, WideIn, ParticleThen, RowThen, Inside, of_choice, of_sequence, InsideThen, Closing, Opening}
 use Rattle.scan.specs.Steps.Moves.{Moves, Reads, over}
-use Rattle.std.proofs.Common.{Result, Err}
 use Rattle.scan.specs.declared.Stop.TheVariants.{Over}
 use Rattle.scan.proofs.Agreeing.{agree_sym, byte_local}
 use Rattle.scan.proofs.Moving.{Good, free_before, exceeds_by, turn, step, with_map, with_two, then_map, good_then, good_or, Avoids, avoids_or}

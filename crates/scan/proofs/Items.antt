@@ -1,12 +1,6 @@
 -- The claims of declarations and items, and the moves between them. Assumes nothing.
-use Prim.Native.Nat.{ℕ, suc, ◌≤◌, ◌<◌}
+use Rattle.std.proofs.Common.{ℕ, suc, ◌≤◌, ◌<◌, ◌≡◌, refl, inl, inr, Bool, true, false, List, [], ◌∷◌, arith, length, Err}
 use Prim.Native.Char.{code}
-use mathlib.Core.Path.{◌≡◌, refl}
-use mathlib.Core.Logic.{inl, inr}
-use mathlib.Core.Bool.{Bool, true, false}
-use mathlib.Core.List.{List, [], ◌∷◌}
-use native.Mathlib.Omega.{arith}
-use lib.ListN.{length}
 use Rattle.grammar.specs.Bytes.{ascii, is_space, is_mark, Byte, Of, stop, go_on, Literal, done, byte}
 use Rattle.grammar.specs.Tree.{Content, is-empty, Declaration}
 use Rattle.grammar.specs.Grammar.{Remark, ends}
@@ -18,7 +12,6 @@ use Rattle.scan.specs.Steps.Claims.{Mode, plain, limit, Claim, With, behind_it, 
 use Rattle.scan.specs.Steps.Claims.{InSome, Enough, FromItems, FromEnd, FromNamed, FromElement, FromRemark, FromOpen, FromItem}
 use Rattle.scan.specs.Steps.Claims.{Frame, first, behind, Rest, RestMarked}
 use Rattle.scan.specs.Steps.Moves.{Moves, Reads}
-use Rattle.std.proofs.Common.{Result, Err}
 use Rattle.scan.specs.declared.Stop.TheVariants.{Bad}
 use Rattle.scan.proofs.Agreeing.{peek_byte, peek_end, agree_same, agree_sym, byte_local, of_local}
 use Rattle.scan.proofs.Moving.{moves_on, Good, stuck_here, turn, step, with_map, good_piece, good_then, good_or, Avoids}

@@ -1,17 +1,10 @@
 -- Moves from claim to claim, one after another; how a text that was read so far can go on. Assumes nothing.
-use Prim.Native.Nat.{ℕ, suc, ◌≤◌, ◌<◌}
-use mathlib.Core.Path.{◌≡◌}
-use mathlib.Core.Logic.{◌⊎◌, inl, inr}
-use mathlib.Core.Bool.{Bool}
-use mathlib.Core.List.{List, ◌++◌}
-use native.Mathlib.Omega.{arith}
-use lib.ListN.{length, take, length-append, length-take}
+use Rattle.std.proofs.Common.{ℕ, suc, ◌≤◌, ◌<◌, ◌≡◌, ◌⊎◌, inl, inr, Bool, List, ◌++◌, arith, length, take, length-append, length-take, Result, Err}
 use Rattle.grammar.specs.Bytes.{Of, Literal}
 use Rattle.scan.specs.Steps.Agree.{Agree}
 use Rattle.scan.specs.Steps.Claims.{Mode, plain, limit, Claim, With, behind_it, in_it, Then, Piece, Or, this, that}
 use Rattle.scan.specs.Steps.Moves.{Exceeds, Free, Moves, Reads, got, bad, over}
 use Rattle.scan.specs.declared.Stop.{Stop}
-use Rattle.std.proofs.Common.{Result, Err}
 use Rattle.scan.specs.declared.Stop.TheVariants.{Bad}
 use Rattle.grammar.proofs.Stopping.{le_or_lt}
 use Rattle.scan.proofs.Agreeing.{agree_less, agree_on, agree_append, agree_take, literal_appended}

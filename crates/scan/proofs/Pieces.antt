@@ -1,12 +1,6 @@
 -- The moves over the smallest pieces: words, white space, one byte or none, names. Assumes nothing.
-use Prim.Native.Nat.{ℕ, suc, ◌+◌, ◌≤◌, ◌<◌}
-use mathlib.Core.Path.{◌≡◌, refl, sym, ap}
-use mathlib.Core.Logic.{◌⊎◌, inl, inr}
-use mathlib.Core.Bool.{Bool, true, false}
-use mathlib.Core.List.{List, [], ◌∷◌}
-use native.Mathlib.Omega.{arith}
-use lib.ListN.{length}
-use lib.Seq.{slice, length-slice}
+use Rattle.std.proofs.Common.{ℕ, suc, ◌+◌, ◌≤◌, ◌<◌, ◌≡◌, refl, sym, ap, ◌⊎◌, inl, inr, Bool, true, false, List, [], ◌∷◌, arith, length, Result, Ok, Err}
+use Rattle.std.proofs.Math.Seq.{slice, length-slice}
 use Rattle.grammar.specs.Bytes.{ascii, is_space, is_name_start, is_name_byte, Byte, Of, Span, stop, go_on, Literal, done, byte}
 use Rattle.grammar.specs.Grammar.{Blanks, Space, Name}
 use Rattle.grammar.proofs.Pieces.{off, apart}
@@ -15,7 +9,6 @@ use Rattle.scan.specs.Steps.Claims.{Mode, plain, limit, Claim, With, behind_it, 
 use Rattle.scan.specs.Steps.Moves.{Moves, Reads, got, over}
 use Rattle.scan.specs.Steps.Readers.{BlanksRead, SpaceRead, MaybeRead, taken, left, NameGot, NameLong, NameRead, Differs, here, later, WordRead}
 use Rattle.scan.specs.declared.Stop.{Stop}
-use Rattle.std.proofs.Common.{Result, Ok, Err}
 use Rattle.scan.specs.declared.Stop.TheVariants.{Bad, Over}
 use Rattle.scan.proofs.Agreeing.{agree_sym, byte_local, of_local, span_le, span_local, literal_le, span_same}
 use Rattle.scan.proofs.Moving.{moves_on, reads_on, Good, stuck_here, exceeds_by, turn, step, good_piece, good_then, Avoids}

@@ -1,10 +1,6 @@
 -- What the readers answer, one after another. Assumes nothing.
-use Prim.Native.Nat.{ℕ, suc, ◌≤◌}
+use Rattle.std.proofs.Common.{ℕ, suc, ◌≤◌, ◌≡◌, refl, ap, ◌∙◌, List, [], ◌∷◌, arith, length, Result, Ok, Err, IsErrAnd}
 use Prim.Native.Char.{code}
-use mathlib.Core.Path.{◌≡◌, refl, ap, ◌∙◌}
-use mathlib.Core.List.{List, [], ◌∷◌}
-use native.Mathlib.Omega.{arith}
-use lib.ListN.{length}
 use Rattle.grammar.specs.Bytes.{ascii, is_name_byte, is_mark, Byte, Of}
 use Rattle.grammar.proofs.Pieces.{apart, space_no_name, space_no_mark, mark_no_name}
 use Rattle.grammar.proofs.Unique.{Separator}
@@ -12,7 +8,6 @@ use Rattle.scan.specs.Steps.Claims.{Mode, Claim, Maybe, one, none, Frame, first,
 use Rattle.scan.specs.Steps.Moves.{Moves, Reads, got, bad, over}
 use Rattle.scan.specs.Steps.Readers.{BlanksRead, MaybeRead, NameRead, WordRead}
 use Rattle.scan.specs.declared.Stop.{Stop}
-use Rattle.std.proofs.Common.{Result, Ok, Err, IsErrAnd}
 use Rattle.std.proofs.lemmas.Result.{err_from_is_err_and}
 use Rattle.scan.specs.declared.Stop.TheVariants.{Over}
 use Rattle.scan.proofs.Moving.{moves_on, reads_on, turn, Avoids}

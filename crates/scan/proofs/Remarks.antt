@@ -1,18 +1,12 @@
 -- The moves through a comment. Assumes nothing.
-use Prim.Native.Nat.{ℕ, suc, ◌≤◌}
+use Rattle.std.proofs.Common.{ℕ, suc, ◌≤◌, ◌≡◌, refl, ap, Bool, List, arith, length, Err}
 use Prim.Native.Char.{code}
-use mathlib.Core.Path.{◌≡◌, refl, ap}
-use mathlib.Core.Bool.{Bool}
-use mathlib.Core.List.{List}
-use native.Mathlib.Omega.{arith}
-use lib.ListN.{length}
 use Rattle.grammar.specs.Bytes.{ascii, is_no_dash, Byte, Of, Literal, byte}
 use Rattle.grammar.specs.Grammar.{Remark, ends, no_dash, one_dash}
 use Rattle.grammar.proofs.Pieces.{off, literal_start}
 use Rattle.scan.specs.Steps.Agree.{Agree}
 use Rattle.scan.specs.Steps.Claims.{Mode, Claim, Piece, Or, this, that, LiteralThen, FromItems, FromRemark}
 use Rattle.scan.specs.Steps.Moves.{Moves, Reads}
-use Rattle.std.proofs.Common.{Result, Err}
 use Rattle.scan.specs.declared.Stop.TheVariants.{Bad}
 use Rattle.scan.proofs.Agreeing.{agree_sym, byte_local, of_local}
 use Rattle.scan.proofs.Moving.{Good, stuck_here, turn, step, good_piece, good_or}

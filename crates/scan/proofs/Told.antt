@@ -1,16 +1,9 @@
 -- Yes and no about a byte of the text. Assumes nothing.
-use Prim.Native.Nat.{ℕ, suc, ◌<◌}
-use mathlib.Core.Path.{◌≡◌, sym}
-use mathlib.Core.Bool.{Bool, true, false}
-use mathlib.Core.List.{List, ◌∷◌}
-use lib.Dec.{eqb}
-use lib.ListN.{length, get_or}
-use borrow.Author.Tests.{eqb-true, eq-eqb}
+use Rattle.std.proofs.Common.{ℕ, suc, ◌<◌, ◌≡◌, sym, Bool, true, false, List, ◌∷◌, eqb, length, get_or, eqb-true, eq-eqb, Result, Ok, Err}
 use Rattle.grammar.specs.Bytes.{Byte, Of, Span, stop, go_on, byte}
 use Rattle.grammar.proofs.Pieces.{true_false}
 use Rattle.scan.specs.Steps.Readers.{Tells, later, WordRead}
 use Rattle.scan.specs.declared.Stop.{Stop}
-use Rattle.std.proofs.Common.{Result, Ok, Err}
 use Rattle.scan.specs.declared.Stop.TheVariants.{Bad, Over}
 
 pub of_told : (class : ℕ → Bool) (t : List ℕ) (a : ℕ) → a < length t → (r : Bool) → r ≡ class (get_or t a 0) → Tells (Of class t a) r

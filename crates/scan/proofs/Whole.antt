@@ -1,12 +1,5 @@
 -- From the claims of a whole text to numbers 20 and 21. Assumes nothing.
-use Prim.Native.Nat.{ℕ, zero, suc, ◌+◌, ◌≤◌, ◌<◌, min}
-use mathlib.Core.Path.{◌≡◌, refl, sym, ◌∙◌, ap, subst}
-use mathlib.Core.Logic.{◌⊎◌, inl, inr}
-use mathlib.Core.Bool.{false}
-use mathlib.Core.List.{List, [], ◌∷◌, ◌++◌}
-use native.Mathlib.Omega.{arith}
-use lib.ListN.{length, take, drop, length-take}
-use lib.Seq.{take_all}
+use Rattle.std.proofs.Common.{ℕ, zero, suc, ◌+◌, ◌≤◌, ◌<◌, min, ◌≡◌, refl, sym, ◌∙◌, ap, subst, ◌⊎◌, inl, inr, false, List, [], ◌∷◌, ◌++◌, arith, length, take, drop, length-take, take_all, Result, Ok, Err}
 use Rattle.grammar.specs.Tree.{Particle, Particles, name, choice, sequence, last, more, Use, Nth, first, later, Content, is-empty, is_text, is_any, is_mixed, is_children, Declaration, uses_in, uses_in_all, uses_of}
 use Rattle.grammar.specs.Grammar.{Text, Items}
 use Rattle.grammar.specs.Stops.{Viable, Stops, at_byte, at_end}
@@ -18,7 +11,6 @@ use Rattle.scan.specs.Steps.Agree.{peek, Agree}
 use Rattle.scan.specs.Steps.Items.{Nothing, EndsAt, ItemsRead}
 use Rattle.scan.specs.Steps.Readers.{place_of}
 use Rattle.scan.specs.declared.Stop.{Stop}
-use Rattle.std.proofs.Common.{Result, Ok, Err}
 use Rattle.scan.specs.declared.Stop.TheVariants.{Bad, Over}
 use Rattle.scan.specs.Steps.Claims.{plain, limit, LongAt, WideAt, WideIn, LongIn, ContentLimit, DeclarationLimit, InSome, Enough, FromItems}
 use Rattle.scan.specs.Steps.Moves.{Stuck, Exceeds, Free, Moves, Reads, got, bad, over}

@@ -1,6 +1,4 @@
-use Prim.Native.Nat.{◌-◌}
-use native.Mathlib.Omega.{arith}
-use mathlib.Core.Path.{refl}
+use Rattle.std.proofs.Common.{◌-◌, arith, refl}
 use Rattle.scan.proofs.Whole.{scanned, too_long}
 use Rattle.scan.proofs.scan.Goals as goal
 

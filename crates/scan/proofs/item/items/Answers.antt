@@ -10,7 +10,7 @@ returns-then-b-s c = at_the_end c.loop-i.seen c.args.s.now c.loop-i.i c.blanks-b
 pub returns-in_err-e : goal.returns-in_err-e
 returns-in_err-e c = let g = c.blanks-b.ensures in
     rw (handed_on c.from_residual.result c.from_residual.ensures.1)
-        (at_refused c.loop-i.seen c.args.s.now c.loop-i.i c.blanks-b.result c.loop-i.invariant.1 g (omega (arith, g.inside)) _ c.in_err-e.ensures)
+    (at_refused c.loop-i.seen c.args.s.now c.loop-i.i c.blanks-b.result c.loop-i.invariant.1 g (omega (arith, g.inside)) _ c.in_err-e.ensures)
 
 pub loop-i-smaller-in-Declared : goal.loop-i-smaller-in-Declared
 loop-i-smaller-in-Declared c = let g = c.blanks-b.ensures in
