@@ -126,12 +126,6 @@ item_told t a b w r x = go r x
 pub item_refused : (t : List ℕ) (a : ℕ) (s : Stop) → WordRead t (ascii "<!") a (Err s) → ItemRead t a (Err s)
 item_refused t a s w = record { told = λ seen. reads_other (word_reads (good_open seen) (Err s) w); on = tt }
 
-pub word_is : (t cs : List ℕ) (a : ℕ) {r q : Result ℕ Stop} → r ≡ q → WordRead t cs a r → WordRead t cs a q
-word_is t cs a e x = rw e at x
-
-pub item_is : (t : List ℕ) (a : ℕ) {r q : Result Item Stop} → r ≡ q → ItemRead t a r → ItemRead t a q
-item_is t a e x = rw e at x
-
 -- the end of the text
 over_here : {t u : List ℕ} → Agree t u (suc (length t)) → length t < length u → ⊥
 over_here {t} {u} h l = let y = h.same (length t) (omega arith) in omega (arith, peek_end t (length t) (omega arith), peek_byte u (length t) l)

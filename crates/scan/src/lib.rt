@@ -31,7 +31,7 @@ pub fn scan(s: &[u8]) -> Result<usize, Stop>
     ensures { Scanned s.now result }
 {
     let n = s.len().min(65538);
-    let r = item::items(&s[0..n]);
+    let r = item::items(&s[..n]);
     if place(r) > 65536 {
         return Err(Stop::Over(65536));
     }
