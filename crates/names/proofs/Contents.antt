@@ -1,12 +1,6 @@
 -- No '>' stands in a content; from where on the names in it are those that it uses. Assumes nothing.
-use Prim.Native.Nat.{ℕ, suc, ◌≤◌, ◌<◌}
+use Rattle.std.proofs.Common.{ℕ, suc, ◌≤◌, ◌<◌, ◌≡◌, refl, ◌≢◌, ◌⊎◌, inl, inr, Bool, false, List, [], ◌∷◌, append-nil, arith, length}
 use Prim.Native.Char.{code}
-use mathlib.Core.Path.{◌≡◌, refl}
-use mathlib.Core.Logic.{◌≢◌, ◌⊎◌, inl, inr}
-use mathlib.Core.Bool.{Bool, false}
-use mathlib.Core.List.{List, [], ◌∷◌, append-nil}
-use native.Mathlib.Omega.{arith}
-use lib.ListN.{length}
 use Rattle.grammar.specs.Bytes.{ascii, is_name_byte, Byte, Of, Span, stop, go_on, Literal, byte}
 use Rattle.grammar.specs.Tree.{Use, Content, Declaration, Nth, uses_in, uses_of}
 use Rattle.grammar.specs.Grammar.{Pcdata, as_choice, as_sequence}

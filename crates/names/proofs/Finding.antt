@@ -1,10 +1,5 @@
 -- Finding a name in the list. Assumes nothing.
-use Prim.Native.Nat.{ℕ, suc, ◌≤◌, ◌<◌, min}
-use mathlib.Core.Path.{◌≡◌, refl, sym, ◌∙◌}
-use mathlib.Core.Logic.{◌⊎◌, inl, inr}
-use mathlib.Core.List.{List}
-use native.Mathlib.Omega.{arith}
-use lib.ListN.{length}
+use Rattle.std.proofs.Common.{ℕ, suc, ◌≤◌, ◌<◌, min, ◌≡◌, refl, sym, ◌∙◌, ◌⊎◌, inl, inr, List, arith, length}
 use Rattle.grammar.specs.Tree.{Declaration, Nth}
 use Rattle.grammar.proofs.Stopping.{le_or_lt}
 use Rattle.model.specs.Tables.{number_of}
