@@ -45,9 +45,6 @@ clear_join {b = b} x y = record {
 clear_one : {t : List ℕ} {a : ℕ} → ¬ Byte t a (code ">") → Clear t a (suc a)
 clear_one {t} {a} f = record { le = omega arith; none = λ j l m g. (let e : j ≡ a = omega arith in f (rw e at g)) }
 
-pub clear_more : {t : List ℕ} {a b : ℕ} → Clear t a b → ¬ Byte t b (code ">") → Clear t a (suc b)
-clear_more x f = clear_join x (clear_one f)
-
 clear_byte : {t : List ℕ} {a x : ℕ} → Byte t a x → x ≢ code ">" → Clear t a (suc a)
 clear_byte g n = clear_one (λ h. n (clash g h))
 

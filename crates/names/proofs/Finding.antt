@@ -9,9 +9,6 @@ use Rattle.names.specs.Steps.Names.{place_in, number_at, Among, Listed, Ranked, 
 use Rattle.names.proofs.Numbered.{number_first, number_none}
 use Rattle.names.proofs.Orders.{upto_self, upto_trans, upto_both}
 
-pub ranked_start : {t list : List ℕ} {size : ℕ} {n : List ℕ} → Ranked t list size n 0 size
-ranked_start = record { upto = λ i h. absurd (omega arith); behind = λ i h k. absurd (omega arith) }
-
 module _ {t : List ℕ} {ds : List Declaration} {list : List ℕ} {size : ℕ} (x : Listed t ds list size) {n : List ℕ} where
   -- an entry stands up to the name, and so do all before it
   pub ranked_up : {low high mid : ℕ} → mid < size → ((m : List ℕ) → NameAt t (place_in list mid) m → Upto m n) → Ranked t list size n low high

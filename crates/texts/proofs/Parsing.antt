@@ -16,7 +16,6 @@ use Rattle.grammar.specs.Grammar.{Items, no_more, a_space, a_comment, a_declarat
 use Rattle.scan.specs.Steps.Readers.{NameRead}
 use Rattle.scan.specs.declared.Stop.{Stop}
 use Rattle.std.proofs.Common.{Result, Ok, Err}
-use Rattle.scan.specs.declared.Stop.TheVariants.{Bad, Over}
 use Rattle.texts.proofs.Tests.{when, of, byte_is, name_at}
 
 abbrev and_then : {A B : Type 0} → Option A → (A → Option B) → Option B
