@@ -12,7 +12,6 @@ use Rattle.grammar.specs.Grammar.{element, Items, no_more, a_space, a_comment, a
 use Rattle.grammar.specs.Stops.{Begins, Stops}
 use Rattle.table.specs.declared.Found.{Found}
 use Rattle.table.specs.declared.Found.TheVariants.{At, Nothing}
-use Rattle.scan.specs.declared.Step.{Step}
 use Rattle.grammar.specs.Limits.{DeepAt, DeepIn, deep_group, long_text}
 use Rattle.grammar.proofs.OneTree.{one_tree}
 use Rattle.grammar.proofs.Stopping.{le_or_lt, text_no_stop, over_within}
@@ -164,9 +163,6 @@ module _ {t list code-words : List ℕ} {count types kids : ℕ} (c : Encoded t 
     last_answer y (last_refused k e r z) = refused (no_table k e (record { read = read_it; right = y }) r) z
     last_answer y (last_short e q a l z) = too_short e q (record { named = record { read = read_it; right = y }; accepted = a }) l z
     last_answer y (last_done e q a l z) = done e q (record { named = record { read = read_it; right = y }; accepted = a }) l z
-
-pub scanned_is : (t : List ℕ) {r q : Step} → r ≡ q → scanned.Scanned t r → scanned.Scanned t q
-scanned_is t e x = rw e at x
 
 pub first_is : (ds : List Declaration) {r q : Found} → r ≡ q → names.FirstMisnamed ds r → names.FirstMisnamed ds q
 first_is ds e x = rw e at x

@@ -1,10 +1,6 @@
 -- The names that a content uses, gone through one by one: the first that is never declared is the lowest. Assumes nothing.
-use Prim.Native.Nat.{ℕ, suc, ◌≤◌, ◌<◌}
+use Rattle.std.proofs.Common.{ℕ, suc, ◌≤◌, ◌<◌, ◌≡◌, refl, List, [], ◌∷◌, arith, length}
 use Prim.Native.Char.{code}
-use mathlib.Core.Path.{◌≡◌, refl}
-use mathlib.Core.List.{List, [], ◌∷◌}
-use native.Mathlib.Omega.{arith}
-use lib.ListN.{length}
 use Rattle.grammar.specs.Bytes.{is_name_start, is_name_byte, Byte, Of, Span, stop, go_on}
 use Rattle.grammar.specs.Tree.{Use, Declaration, Nth, first, later}
 use Rattle.grammar.specs.Grammar.{Name}

@@ -1,11 +1,6 @@
 -- A name is misnamed exactly if its number says so; those of later declarations stand further on, so the first found is the lowest. Assumes
 -- nothing.
-use Prim.Native.Nat.{ℕ, suc, ◌≤◌, ◌<◌}
-use mathlib.Core.Path.{◌≡◌}
-use mathlib.Core.Logic.{◌⊎◌, inl, inr}
-use mathlib.Core.List.{List, ◌∷◌}
-use native.Mathlib.Omega.{arith}
-use lib.ListN.{length}
+use Rattle.std.proofs.Common.{ℕ, suc, ◌≤◌, ◌<◌, ◌≡◌, ◌⊎◌, inl, inr, List, ◌∷◌, arith, length}
 use Rattle.grammar.specs.Tree.{Declaration, Nth, first, later, uses_of}
 use Rattle.grammar.specs.Grammar.{no_more, Element, element, Remark, ends, no_dash, one_dash, Items, a_space, a_comment, a_declaration}
 use Rattle.grammar.proofs.Stopping.{le_or_lt}

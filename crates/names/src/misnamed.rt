@@ -29,6 +29,7 @@ fn first_unknown(s: &[u8], list: &[u16; 512], count: usize, at: usize) -> Found
     ensures { UnknownRead s.now list.now count at result }
 {
     let mut i = at;
+    // A while: a name is passed as a whole.
     while i < s.len() {
         if is(s, i, b'>') {
             return Found::Nothing;

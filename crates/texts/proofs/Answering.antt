@@ -19,8 +19,9 @@ use Rattle.model.specs.Tables.{rules_of, kids_of_all, table_of}
 use Rattle.table.proofs.Answers.{answer_accepted}
 use Rattle.grammar.proofs.Stopping.{le_or_lt}
 use Rattle.scan.specs.Steps.Scanned as scan
-use Rattle.scan.specs.declared.Step.{Step}
-use Rattle.scan.specs.declared.Step.TheVariants.{At, Bad, Over}
+use Rattle.scan.specs.declared.Stop.{Stop}
+use Rattle.std.proofs.Common.{Result, Ok, Err}
+use Rattle.scan.specs.declared.Stop.TheVariants.{Bad, Over}
 use Rattle.names.specs.Steps.Names.{FirstMisnamed}
 use Rattle.dtd.specs.Answer.{Large, many_types, many_children, Read, Named, misnamed, no_table, DtdAnswer, refused, too_short, done}
 use Rattle.dtd.proofs.Passing.{stopped_answer, passed_answer, large_answer}
@@ -88,12 +89,12 @@ module _ (t out : List ℕ) where
   parsed_by r none = none
   parsed_by r (some x) = some (tree_by t out r x.0 x.1.0 x.1.1)
 
-  abbrev scanned_by : (n : ℕ) (r : Step) → scan.Scanned t r → Option (Right t out)
-  scanned_by n (At e) x = parsed_by x.1 (parse n t)
-  scanned_by n (Bad k) x = some (record { number = 20; place = k; after = out; right = refused (stopped_answer x) refl })
-  scanned_by n (Over k) x = some (record { number = 21; place = k; after = out; right = refused (passed_answer x) refl })
+  abbrev scanned_by : (n : ℕ) (r : Result ℕ Stop) → scan.Scanned t r → Option (Right t out)
+  scanned_by n (Ok e) x = parsed_by x.1 (parse n t)
+  scanned_by n (Err (Bad k)) x = some (record { number = 20; place = k; after = out; right = refused (stopped_answer x) refl })
+  scanned_by n (Err (Over k)) x = some (record { number = 21; place = k; after = out; right = refused (passed_answer x) refl })
 
-  abbrev answer_by : (n : ℕ) → Option ((r : Step) × scan.Scanned t r) → Option (Right t out)
+  abbrev answer_by : (n : ℕ) → Option ((r : Result ℕ Stop) × scan.Scanned t r) → Option (Right t out)
   answer_by n none = none
   answer_by n (some x) = scanned_by n x.0 x.1
 

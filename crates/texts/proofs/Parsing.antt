@@ -14,8 +14,8 @@ use Rattle.grammar.specs.Grammar.{Blanks, Space, Name, MarkAt, no_mark, question
 use Rattle.grammar.specs.Grammar.{no_name, Pcdata, Spec, spec_empty, spec_text, spec_starred, spec_children, Element, element, Remark, ends, no_dash, one_dash}
 use Rattle.grammar.specs.Grammar.{Items, no_more, a_space, a_comment, a_declaration, Text}
 use Rattle.scan.specs.Steps.Readers.{NameRead}
-use Rattle.scan.specs.declared.Step.{Step}
-use Rattle.scan.specs.declared.Step.TheVariants.{At, Bad, Over}
+use Rattle.scan.specs.declared.Stop.{Stop}
+use Rattle.std.proofs.Common.{Result, Ok, Err}
 use Rattle.texts.proofs.Tests.{when, of, byte_is, name_at}
 
 abbrev and_then : {A B : Type 0} → Option A → (A → Option B) → Option B
@@ -35,10 +35,9 @@ module _ (t : List ℕ) where
   literal_of [] a = some (a, done)
   literal_of (c ∷ cs) a = when (byte_is t a c) (λ g. and_then (literal_of cs (suc a)) (λ x. some (x.0, byte g x.1))) (λ f. none)
 
-  abbrev name_by : (a : ℕ) (r : Step) → NameRead t a r → Option ((b : ℕ) × Name t a b (slice a b t))
-  name_by a (At e) x = some (e, record { is = refl; start = x.start; rest = x.rest })
-  name_by a (Bad k) x = none
-  name_by a (Over k) x = none
+  abbrev name_by : (a : ℕ) (r : Result ℕ Stop) → NameRead t a r → Option ((b : ℕ) × Name t a b (slice a b t))
+  name_by a (Ok e) x = some (e, record { is = refl; start = x.start; rest = x.rest })
+  name_by a (Err s) x = none
 
   abbrev name_of : (a : ℕ) → Option ((b : ℕ) × Name t a b (slice a b t))
   name_of a = let x = name_at t a in name_by a x.0 x.1

@@ -18,11 +18,11 @@ overflow_add-count c = let l = c.loop-name.invariant in
     omega (arith, l.0, l.1)
 
 pub loop-name-smaller : goal.loop-name-smaller
-loop-name-smaller c = let x = rw c.in-Declared.is at c.declaration_from.ensures in
+loop-name-smaller c = let x = c.in-Some.ensures in
     omega (arith, x.moved.0, x.moved.1, c.place_behind-at.ensures.from)
 
 pub loop-name-preserved : goal.loop-name-preserved
-loop-name-preserved c = let x = rw c.in-Declared.is at c.declaration_from.ensures in
+loop-name-preserved c = let x = c.in-Some.ensures in
     let b = c.place_behind-at.ensures in
     let n = c.name_end.ensures in
     let q = c.part.ensures in
@@ -37,8 +37,8 @@ loop-name-preserved c = let x = rw c.in-Declared.is at c.declaration_from.ensure
           rw (add-one c.loop-name.count) (gone_more s b, booking_declared short few s n q p g.1)),
     )
 
-pub returns-in-End : goal.returns-in-End
-returns-in-End c = let x = rw c.in-End.is at c.declaration_from.ensures in
+pub returns : goal.returns
+returns c = let x = c.in_default.ensures in
     record {
       names_kept = c.loop-name.invariant.2 ∙ sym c.requires.0;
       starts_kept = c.loop-name.invariant.3 ∙ sym c.requires.1;

@@ -1,6 +1,5 @@
 -- The first of the names from here on is the first of all, since those so far are declared. Assumes nothing.
-use Prim.Native.Nat.{◌-◌}
-use lib.ListN.{length}
+use Rattle.std.proofs.Common.{◌-◌, length}
 use Rattle.table.specs.declared.Found.{Found}
 use Rattle.names.specs.Steps.Wrong.{UnknownRead}
 use Rattle.names.proofs.misnamed.first_unknown.Given as goal
