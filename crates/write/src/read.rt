@@ -5,7 +5,8 @@ ghost use Rattle.table.specs.Steps.Reading.{Within};
 ghost use Rattle.write.specs.Steps.Reading.{operands_in, own_in, extra_in, star_in, rule_kind_in, need_after, free_after, inner_of};
 ghost use Rattle.write.specs.Steps.Reading.{child_in, Numbered, Skipped};
 
-fn wide(x: u32) -> usize
+// A word, widened.
+pub fn wide(x: u32) -> usize
     ensures { Within 4294967296 x result }
 {
     x as usize
@@ -109,16 +110,17 @@ pub fn skip(code: &[u32], place: Place) -> Place
     ensures { Skipped code.now place.at place.free result.at result.free }
 {
     let mut need = 1;
-    let mut at = place.at;
     let mut free = place.free;
-    while at < code.len() {
+    for at in place.at..code.len() {
         if need == 0 {
-            return Place { at: at, free: free };
+            return Place { at, free };
         }
-        let w = word_at(code, at);
+        let w = wide(code[at]);
         free = free_after(need, free, w);
         need = need_after(need, w);
-        at += 1;
     }
-    Place { at: at, free: free }
+    Place {
+        at: code.len(),
+        free,
+    }
 }

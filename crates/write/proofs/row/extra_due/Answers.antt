@@ -1,12 +1,13 @@
 -- The tests are the definition's. Assumes nothing.
-use Rattle.write.proofs.Words.{at_least}
+use Rattle.std.proofs.Common.{arith}
+use Rattle.std.proofs.lemmas.Bool.Decides.{nat_tests}
 use Rattle.write.specs.Steps.Reading.{extra_due}
 use Rattle.write.proofs.row.extra_due.Goals as goal
 
 pub returns-then-later : goal.returns-then-later
 unfolding extra_due
-returns-then-later c = rw c.if-later.true (at_least 393216 c.args.w)
+returns-then-later c = grind (arith, nat_tests)
 
-pub returns : goal.returns
+pub returns-else-later : goal.returns-else-later
 unfolding extra_due
-returns c = rw c.if-later.false
+returns-else-later c = grind (arith, nat_tests)

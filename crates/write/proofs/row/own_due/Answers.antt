@@ -1,16 +1,13 @@
 -- The tests are the definition's. Assumes nothing.
-use borrow.Author.Tests.{lt-ltb, le-ltb}
+use Rattle.std.proofs.Common.{arith}
+use Rattle.std.proofs.lemmas.Bool.Decides.{nat_tests}
 use Rattle.write.specs.Steps.Reading.{own_due}
 use Rattle.write.proofs.row.own_due.Goals as goal
 
-pub returns-then-w-lt65536 : goal.returns-then-w-lt65536
+pub returns-then-w-ge65536 : goal.returns-then-w-ge65536
 unfolding own_due
-returns-then-w-lt65536 c = rw (lt-ltb _ _ c.if-w-lt65536.true)
+returns-then-w-ge65536 c = grind (arith, nat_tests)
 
-pub returns-then-later : goal.returns-then-later
+pub returns-else-w-ge65536 : goal.returns-else-w-ge65536
 unfolding own_due
-returns-then-later c = rw (le-ltb _ _ c.if-w-lt65536.false, c.if-later.true)
-
-pub returns : goal.returns
-unfolding own_due
-returns c = rw (le-ltb _ _ c.if-w-lt65536.false, c.if-later.false)
+returns-else-w-ge65536 c = grind (arith, nat_tests)
