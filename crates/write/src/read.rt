@@ -20,6 +20,7 @@ pub fn word_at(code: &[u32], c: usize) -> usize
 }
 
 // How many operands follow a word.
+#[tactic(auto, unfolding(crate::specs::Steps::Reading::operands_in))]
 pub fn operands(w: usize) -> usize
     ensures { Within 65536 (operands_in w) result }
 {
@@ -27,6 +28,7 @@ pub fn operands(w: usize) -> usize
 }
 
 // How many types are its own.
+#[tactic(auto, unfolding(crate::specs::Steps::Reading::own_in))]
 pub fn own(w: usize) -> usize
     ensures { Within 2 (own_in w) result }
 {
@@ -34,6 +36,7 @@ pub fn own(w: usize) -> usize
 }
 
 // How many types it makes inside.
+#[tactic(auto, unfolding(crate::specs::Steps::Reading::extra_in))]
 pub fn extra(w: usize) -> usize
     ensures { Within 2 (extra_in w) result }
 {
@@ -41,6 +44,7 @@ pub fn extra(w: usize) -> usize
 }
 
 // How many children the type that it makes inside has.
+#[tactic(auto, unfolding(crate::specs::Steps::Reading::star_in))]
 pub fn star(w: usize) -> usize
     ensures { Within 2 (star_in w) result }
 {
@@ -48,6 +52,7 @@ pub fn star(w: usize) -> usize
 }
 
 // The kind of its own type's rule.
+#[tactic(auto, unfolding(crate::specs::Steps::Reading::rule_kind_in))]
 pub fn rule_kind(w: usize) -> usize
     ensures { Within 5 (rule_kind_in w) result }
 {

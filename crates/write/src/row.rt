@@ -113,6 +113,7 @@ fn write_row(
 }
 
 // Is a word's own row due?
+#[tactic(auto, unfolding(crate::specs::Steps::Reading::own_due))]
 fn own_due(later: bool, need: usize, w: usize) -> bool
     ensures { result ≡ own_due later need w }
 {
@@ -120,6 +121,7 @@ fn own_due(later: bool, need: usize, w: usize) -> bool
 }
 
 // Is that of the type that it makes inside?
+#[tactic(auto, unfolding(crate::specs::Steps::Reading::extra_due))]
 fn extra_due(later: bool, w: usize) -> bool
     ensures { result ≡ extra_due later w }
 {
