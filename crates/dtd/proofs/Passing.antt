@@ -1,11 +1,5 @@
 -- What each pass over a text of the grammar leaves, and what it refuses. Assumes nothing.
-use Prim.Native.Nat.{ℕ, zero, suc, ◌+◌, ◌*◌, ◌≤◌, ◌<◌}
-use mathlib.Core.Path.{◌≡◌, refl, sym, ◌∙◌, ap, subst}
-use mathlib.Core.Logic.{inl, inr}
-use mathlib.Core.List.{List}
-use native.Mathlib.Omega.{arith}
-use lib.ListN.{length, take, drop, length-take, take-append-drop}
-use lib.Seq.{ext_get_or, get_or-take}
+use Rattle.std.proofs.Common.{ℕ, zero, suc, ◌+◌, ◌*◌, ◌≤◌, ◌<◌, ◌≡◌, refl, sym, ◌∙◌, ap, subst, inl, inr, List, arith, length, take, drop, length-take, take-append-drop, ext_get_or, get_or-take}
 use Rattle.grammar.specs.Tree.{Particle, Particles, Content, Declaration, Nth, first, later}
 use Rattle.grammar.specs.Grammar.{Cp, cp_name, cp_group, Children, as_choice, as_sequence, Row, closed, separated, Spec, spec_empty, spec_any, spec_text, spec_starred, spec_mixed, spec_children}
 use Rattle.grammar.specs.Grammar.{element, Items, no_more, a_space, a_comment, a_declaration}
@@ -175,6 +169,3 @@ module _ {words front : List ℕ} (n : ℕ) {ds : List Declaration} {code-words 
 
   pub front_is : front ≡ untotalled ds
   front_is = f ∙ ap (λ (k : ℕ). take k words) size_is ∙ x.table ds w.coded w.all w.counted (omega (arith, w.counted.types_are, w.small.types_few)) (omega (arith, w.counted.kids_are, w.small.kids_few))
-
-pub words_fit : {n types kids : ℕ} {words : List ℕ} {code-words : List ℕ} {declared : ℕ} → types ≤ 256 → kids ≤ 1024 → Written code-words words declared types kids → n ≡ 8 + 3 * types + kids → n ≤ length words
-words_fit a b x e = omega (arith, x.sized)
