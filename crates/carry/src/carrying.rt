@@ -10,7 +10,7 @@ ghost use Rattle.carry.specs.Steps.Moving.{BecomesBy, TextAt, EndsAt, ReplacesAt
 use super::kinds::{kind_at, replaces_at};
 use super::places::places;
 use super::replaced::carry_rows;
-use super::scatter::{clear, lose_all, move_mark};
+use super::scatter::{lose_all, move_mark};
 use table::privilege::{first_privileges, privileges_at};
 use table::rule::{child_at, children};
 use table::words::{types, word_at};
@@ -140,14 +140,11 @@ pub(crate) fn carry_all(
 {
     let mut firsts = [0u16; 256];
     first_privileges(new, &mut firsts);
-    clear(out);
+    out.fill(0);
     lose_all(marks, lost);
-    let e = types(old);
     let mut first = 0;
-    let mut x = 0;
-    while x < e {
+    for x in 0..types(old) {
         carry_type(old, marks, new, numbers, &firsts, x, first, out, lost);
         first += privileges_at(old, x);
-        x += 1;
     }
 }

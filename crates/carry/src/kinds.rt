@@ -18,9 +18,9 @@ fn kind_of(rule: Rule) -> usize
     match rule {
         Rule::Empty => 0,
         Rule::Text => 1,
-        Rule::Sequence { first: _, count: _ } => 2,
-        Rule::Choice { first: _, count: _ } => 3,
-        Rule::Star { first: _, count: _ } => 4,
+        Rule::Sequence { .. } => 2,
+        Rule::Choice { .. } => 3,
+        Rule::Star { .. } => 4,
     }
 }
 
@@ -50,7 +50,7 @@ pub(crate) fn replaces_at(words: &[u16], x: usize, first: usize) -> Numbering
         };
     }
     Numbering {
-        first: first,
+        first,
         count: 0,
         gap: n.gap,
     }

@@ -4,7 +4,6 @@ ghost use Rattle.table.specs.Steps.Found.{Lowest, Tells};
 ghost use Rattle.carry.specs.Numbers.{EntryFits};
 ghost use Rattle.carry.specs.Steps.Using.{Usable, UsedToo, NumbersAnswer};
 
-use table::words::word_at;
 use table::{Checked, Found};
 
 // Can the number stand, by those that are used?
@@ -12,13 +11,7 @@ fn is_usable(used: &[u8; 256], e: usize, y: usize) -> bool
     requires { e ≤ 256 }
     ensures { Tells (Usable used.now e y) result }
 {
-    if y == 65535 {
-        return true;
-    }
-    if e <= y {
-        return false;
-    }
-    used[y] == 0
+    y == 65535 || (y < e && used[y] == 0)
 }
 
 // Marks the number as used, unless it is 65,535.
@@ -37,15 +30,12 @@ fn lowest_off(numbers: &[u16], e: usize) -> Found
     ensures { Lowest (EntryFits numbers.now e) (length numbers.now) result }
 {
     let mut used = [0u8; 256];
-    let mut x = 0;
-    while x < numbers.len() {
-        let y = word_at(numbers, x);
-        if is_usable(&used, e, y) {
-            use_number(&mut used, y);
-        } else {
+    for (x, number) in numbers.iter().enumerate() {
+        let y = usize::from(*number);
+        if !is_usable(&used, e, y) {
             return Found::At(x);
         }
-        x += 1;
+        use_number(&mut used, y);
     }
     Found::Nothing
 }

@@ -90,11 +90,8 @@ fn carry_row(
     }
     let old = row_of(from, i);
     let new = row_of(to, place);
-    let count = from.count;
-    let mut j = 0;
-    while j < count {
+    for j in 0..from.count {
         carry_replacement(marks, old, new, j, word_at(at, j), out, lost);
-        j += 1;
     }
 }
 
@@ -102,19 +99,13 @@ fn carry_row(
 fn is_alike(from: Numbering, to: Numbering, at: &[u16; 16]) -> bool
     ensures { result ≡ true → Alike from to at.now }
 {
-    if from.count != to.count {
+    if from.count != to.count || from.gap != to.gap {
         return false;
     }
-    if from.gap != to.gap {
-        return false;
-    }
-    let count = from.count;
-    let mut i = 0;
-    while i < count {
+    for i in 0..from.count {
         if word_at(at, i) != i {
             return false;
         }
-        i += 1;
     }
     true
 }
@@ -146,10 +137,7 @@ pub(crate) fn carry_rows(
         move_marks(marks, from.first, to.first, replacements(from), out, lost);
         return;
     }
-    let count = from.count;
-    let mut i = 0;
-    while i < count {
+    for i in 0..from.count {
         carry_row(marks, from, to, at, i, out, lost);
-        i += 1;
     }
 }
