@@ -1,6 +1,5 @@
 -- The loop stands at a type whose privileges do not all end at or before p, unless it goes on. Assumes nothing.
-use Rattle.std.proofs.Common.{◌+◌, ◌<◌, arith}
-use Rattle.table.specs.Words.{types}
+use Rattle.std.proofs.Common.{◌+◌, arith}
 use Rattle.table.proofs.Facts.{facts, has_format, has_record}
 use Rattle.table.proofs.Privileges.{first_start, first_next}
 use Rattle.editing.proofs.Aboves.{type_more}
