@@ -8,8 +8,8 @@ use lib.ListN.{length, get_or}
 use Rattle.table.specs.Words.{types}
 use Rattle.table.specs.Rule.{child_at, IsText, IsStar}
 use Rattle.table.specs.Privilege.{privileges, first_privilege, Edit, text, insert, delete, exchange, replace, type_of, Offers, privilege_of}
-use Rattle.table.specs.Named.{Named, texts, inserts, deletes, replaces, name_of}
-use Rattle.table.proofs.Named.{kind_of, type_in, named_type}
+use Rattle.table.specs.Named.{texts, inserts, deletes, name_of}
+use Rattle.table.proofs.Named.{kind_of, type_in}
 use Rattle.table.proofs.Privileges.{edit_belongs, edit_below}
 use Rattle.carry.specs.Numbers.{new_number}
 use Rattle.carry.specs.Carries.{mapped, Becomes, NewMark, kept, fresh, LostByte, lost, unset, housed, Carries}
@@ -204,16 +204,6 @@ module _ (old new numbers : List ℕ) where
       (scattered_then (BecomesBy (TextAt x) old new numbers) (BecomesBy (EndsAt x) old new numbers) (BecomesBy (Plain x) old new numbers)
       (more (TextAt x) (EndsAt x) (Plain x) (λ e h. inl h) (λ e h. inr h) (λ e h. h)) a b)
       c
-
-  -- what becomes of an edit is at the new number of its type
-  becomes_type : {p q : ℕ} (s : Becomes old new numbers p q) → type_of s.after ≡ new_number numbers (type_of s.before)
-  becomes_type s = sym (named_type new s.after) ∙ ap type_in s.same ∙ mapped_type (name_of old s.before) ∙ ap (new_number numbers) (named_type old s.before)
-    where
-      mapped_type : (n : Named) → type_in (mapped (new_number numbers) n) ≡ new_number numbers (type_in n)
-      mapped_type (texts x) = refl
-      mapped_type (inserts x a) = refl
-      mapped_type (deletes x a) = refl
-      mapped_type (replaces x a b) = refl
 
   pub types_start : (marks out gone : List ℕ) → Scattered (BecomesBy (TypesTo 0) old new numbers) marks out gone out gone
   types_start marks out gone = scattered_none (BecomesBy (TypesTo 0) old new numbers) marks out gone (λ p q b. omega (arith, b.asked))
