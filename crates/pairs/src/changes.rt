@@ -35,16 +35,14 @@ fn all_kept(
     ensures { Tells ((k : ℕ) → k < length allowed.now → (j : ℕ) → j < 8 → ¬ OtherAt (maps allowed.now forbidden.now) (maps proposed_allowed.now proposed_forbidden.now) k j) result }
 {
     let mut kept = true;
-    let mut k = 0;
-    while k < allowed.len() {
+    for k in 0..allowed.len() {
         let other = other_changes(
             allowed[k],
             forbidden[k],
             proposed_allowed[k],
             proposed_forbidden[k],
         );
-        kept = kept & (other == 0);
-        k += 1;
+        kept &= other == 0;
     }
     kept
 }
@@ -84,12 +82,10 @@ pub fn lowest_change(
     if all_kept(allowed, forbidden, proposed_allowed, proposed_forbidden) {
         return Found::Nothing;
     }
-    let mut p = 0;
-    while p < v {
+    for p in 0..v {
         if is_other(allowed, forbidden, proposed_allowed, proposed_forbidden, p) {
             return Found::At(p);
         }
-        p += 1;
     }
     Found::Nothing
 }
@@ -106,16 +102,14 @@ pub fn count_changes(
     ensures { HowMany (Changed (marks_of v (maps allowed.now forbidden.now)) (marks_of v (maps proposed_allowed.now proposed_forbidden.now))) v result }
 {
     let mut count = 0u16;
-    let mut k = 0;
-    while k < allowed.len() {
+    for k in 0..allowed.len() {
         let more = changed(
             allowed[k],
             forbidden[k],
             proposed_allowed[k],
             proposed_forbidden[k],
         );
-        count += u8::count_ones(more) as u16;
-        k += 1;
+        count += more.count_ones() as u16;
     }
-    count as usize
+    usize::from(count)
 }

@@ -29,10 +29,8 @@ fn none_shared(allowed: &[u8], forbidden: &[u8]) -> bool
     ensures { Tells ((k : ℕ) → k < length allowed.now → bit_and (get_or allowed.now k 0) (get_or forbidden.now k 0) ≡ 0) result }
 {
     let mut none = true;
-    let mut k = 0;
-    while k < allowed.len() {
-        none = none & (allowed[k] & forbidden[k] == 0);
-        k += 1;
+    for k in 0..allowed.len() {
+        none &= allowed[k] & forbidden[k] == 0;
     }
     none
 }
@@ -45,12 +43,10 @@ fn lowest_both(allowed: &[u8], forbidden: &[u8], v: usize) -> Found
     if none_shared(allowed, forbidden) {
         return Found::Nothing;
     }
-    let mut p = 0;
-    while p < v {
-        if is_set(allowed, p) & is_set(forbidden, p) {
+    for p in 0..v {
+        if is_set(allowed, p) && is_set(forbidden, p) {
             return Found::At(p);
         }
-        p += 1;
     }
     Found::Nothing
 }
