@@ -60,14 +60,10 @@ pub(crate) fn enter_declared(s: &[u8], names: &mut [u8; 8192], starts: &mut [u16
     starts[0] = 0;
     let mut at = 0;
     let mut count = 0;
-    loop {
-        match declaration_from(s, at) {
-            Next::Declared(name, body) => {
-                enter(part(s, name, name_end(s, name)), names, starts, count);
-                at = place_behind(s, at, body);
-                count += 1;
-            }
-            Next::End => return count,
-        }
+    while let Next::Declared(name, body) = declaration_from(s, at) {
+        enter(part(s, name, name_end(s, name)), names, starts, count);
+        at = place_behind(s, at, body);
+        count += 1;
     }
+    count
 }
