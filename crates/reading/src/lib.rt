@@ -29,14 +29,14 @@ pub fn read_lines(
     let mut at = 0;
     let mut from = 0;
     let mut near = 0;
+    // A while: the place moves on by a line.
     while at < listing.len() {
-        let line = read_line(words, names, starts, &firsts, listing, at, near);
-        if line.end == 0 {
+        let Some(line) = read_line(words, names, starts, &firsts, listing, at, near) else {
             return Checked {
                 number: 25,
                 place: at,
             };
-        }
+        };
         let p = line.privilege;
         if p < from {
             return Checked {
