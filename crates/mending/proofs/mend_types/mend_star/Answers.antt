@@ -1,5 +1,5 @@
 -- Where the child cannot be renewed there is no breach. Assumes nothing.
-use mathlib.Core.Path.{refl}
+use Rattle.std.proofs.Common.{refl}
 use Rattle.table.proofs.Lowest.{told_no}
 use Rattle.policy.proofs.Renewals.{renewed_into}
 use Rattle.verdict.specs.Steps.Visits.{none}
