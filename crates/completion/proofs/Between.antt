@@ -1,7 +1,5 @@
 -- What stands between an allowed set and what it grants opens, passes on and grants the same. Assumes nothing.
-use Prim.Native.Nat.{ℕ}
-use mathlib.Core.Logic.{inl, inr, ◌↔◌}
-use mathlib.Core.List.{List}
+use Rattle.std.proofs.Common.{ℕ, inl, inr, ◌↔◌, List}
 use Rattle.table.specs.Check.{Accepted}
 use Rattle.policy.proofs.Reaches.{reached_mono}
 use Rattle.policy.proofs.Renewals.{renewed_mono}

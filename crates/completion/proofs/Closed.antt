@@ -1,10 +1,7 @@
 -- What is granted forces nothing more: the operator T is closed. The argument of document 000, section 4.1: opening goes down, and a step
 -- that was granted is allowed, or reached, or at an opened type; an exchange likewise. Assumes nothing.
-use Prim.Native.Nat.{ℕ}
-use mathlib.Core.Path.{◌≡◌, refl, subst⁻¹}
-use mathlib.Core.Logic.{◌⊎◌, inl, inr}
-use mathlib.Core.List.{List}
-use native.Mathlib.Omega.{arith}
+use Rattle.std.proofs.Common.{ℕ, ◌≡◌, refl, ◌⊎◌, inl, inr, List, arith}
+use mathlib.Core.Path.{subst⁻¹}
 use Rattle.table.specs.Rule.{IsStar, child_at, Child}
 use Rattle.table.specs.Privilege.{Belongs, insert_of, delete_of, Edit, text, insert, delete, exchange, replace, type_of, Offers, privilege_of}
 use Rattle.table.specs.Check.{Accepted}

@@ -1,11 +1,7 @@
 -- Completing a policy: with a breach there is no completion; a call has one outcome; and filling one more blank takes nothing back
 -- (demand 3). Assumes nothing.
-use Prim.Native.Nat.{ℕ, ◌≤◌, ◌<◌}
-use mathlib.Core.Path.{◌≡◌, sym, ap, ◌∙◌}
-use mathlib.Core.Logic.{◌↔◌}
-use mathlib.Core.List.{List, ◌++◌}
-use native.Mathlib.Omega.{arith}
-use lib.ListN.{length, get_or, drop, get_or-append}
+use Rattle.std.proofs.Common.{ℕ, ◌≤◌, ◌<◌, ◌≡◌, sym, ap, ◌∙◌, ◌↔◌, List, ◌++◌, arith, length, get_or, drop}
+use lib.ListN.{get_or-append}
 use Rattle.table.specs.Privilege.{privileges}
 use Rattle.policy.specs.Marks.{Allowed, Keeps, Policy}
 use Rattle.verdict.specs.Breaches.{spot_of, FirstBreach}

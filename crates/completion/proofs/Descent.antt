@@ -1,12 +1,6 @@
 -- The pass from parents to children, along the order of the types read backwards. Assumes nothing.
-use Prim.Native.Nat.{ℕ, ◌+◌, ◌≤◌, ◌<◌}
-use mathlib.Core.Path.{◌≡◌, refl, sym, ◌∙◌}
-use mathlib.Core.Logic.{◌⊎◌, inl, inr}
-use mathlib.Core.Bool.{true}
-use mathlib.Core.List.{List}
-use native.Mathlib.Nat.{eq-or-lt_of_le}
-use native.Mathlib.Omega.{arith}
-use lib.ListN.{length, get_or, replicate, get_or-replicate}
+use Rattle.std.proofs.Common.{ℕ, ◌+◌, ◌-◌, ◌≤◌, ◌<◌, ◌≡◌, refl, sym, ◌∙◌, ◌⊎◌, inl, inr, true, List, eq-or-lt_of_le, arith, length, get_or, replicate}
+use lib.ListN.{get_or-replicate}
 use Rattle.table.specs.Steps.Found.{Tells}
 use Rattle.table.specs.Words.{types}
 use Rattle.table.specs.Rule.{children_at, child_at, Child}
@@ -23,7 +17,7 @@ use Rattle.completion.specs.Granted.{Granted}
 use Rattle.completion.specs.Steps.Opens.{OpensAt, star, cycle, Opened, PassesOn}
 use Rattle.policy.specs.Steps.Writing.{Decision, allow, forbid}
 use Rattle.completion.specs.Steps.Writing.{is_open}
-use Rattle.completion.specs.Steps.Passes.{Done, Filled}
+use Rattle.completion.specs.Steps.Passes.{Visited, Done, HasFirsts, Filled}
 use Rattle.completion.proofs.Between.{Between, opened_between, passes_between, granted_between}
 use Rattle.completion.proofs.Closed.{opened_down}
 use Rattle.completion.proofs.Openings.{holds_on}
@@ -193,6 +187,26 @@ module _ {ws marks order opened new : List ℕ} {k : ℕ} (a : Accepted ws) (up 
         where
           apart : ¬ Belongs ws p (get_or order k 0)
           apart c = let e = up.once j k m h (belongs_one b c) in omega arith
+
+-- the type before place k is visited as the pass comes to it, and done as it goes on
+module _ {ws marks order opened new : List ℕ} {k x : ℕ} (pol : Policy ws marks) (up : BottomUp ws order) (s : Descended ws marks order k opened new)
+    (h : 0 < k) (l : k ≤ types ws) (e : x ≡ get_or order (k - 1) 0) where
+  one_more : Descended ws marks order (k - 1 + 1) opened new
+  one_more = let same : k ≡ k - 1 + 1 = omega arith in rw same at s
+
+  pub descent_visit : (firsts : List ℕ) {first : ℕ} → HasFirsts ws firsts → first ≡ get_or firsts x 0 → Visited ws new x first opened
+  descent_visit firsts f q =
+      let type : x < types ws = rw e (up.inside (k - 1) (omega arith)) in
+      record {
+        policy = descent_policy up one_more pol;
+        type = type;
+        first_is = q ∙ f x type;
+        size = s.flags;
+        told = rw e (descent_told pol.accepted up one_more (omega arith));
+      }
+
+  pub descent_on : {Opened-after newer : List ℕ} → Done ws new x opened Opened-after newer → Descended ws marks order (k - 1) Opened-after newer
+  descent_on d = descent_more pol.accepted up one_more (omega arith) (rw e at d)
 
 pub descent_all : {ws marks order opened new : List ℕ} → Policy ws marks → BottomUp ws order → Descended ws marks order 0 opened new → Filled ws marks new
 descent_all {ws} {marks} {order} {opened} {new} pol up s = record {

@@ -1,12 +1,6 @@
 -- What a policy grants, tested; the completion, computed by that test; and theorem 2 of document 000, that a policy has a completion exactly
 -- if it is clean, and exactly if nothing granted is forbidden. The tests hold of every run of words and of marks. Assumes nothing.
-use Prim.Native.Nat.{ℕ, suc, ◌<◌}
-use mathlib.Core.Path.{◌≡◌, refl}
-use mathlib.Core.Logic.{◌⊎◌, inl, inr, ◌↔◌}
-use mathlib.Core.Bool.{Bool, true, false}
-use mathlib.Core.List.{List}
-use native.Mathlib.Omega.{arith}
-use lib.Dec.{T}
+use Rattle.std.proofs.Common.{ℕ, suc, ◌<◌, ◌≡◌, refl, ◌⊎◌, inl, inr, ◌↔◌, Bool, true, false, List, arith, T}
 use Rattle.table.specs.Words.{types}
 use Rattle.table.specs.Rule.{count_of, child_at}
 use Rattle.table.specs.Privilege.{privileges, exchange_of, replace_of, Exchangeable, Replaceable, Edit, text, insert, delete, exchange, replace, Offers, privilege_of}

@@ -1,12 +1,6 @@
 -- The completion that allows exactly what is granted is the least; a policy has one exactly if it is clean; a fuller policy's allows all
 -- that the earlier's does (demand 3; theorem 2 of document 000). Assumes nothing.
-use Prim.Native.Nat.{ℕ, ◌≤◌, ◌<◌}
-use mathlib.Core.Path.{◌≡◌, sym, ◌∙◌}
-use mathlib.Core.Logic.{◌⊎◌, inl, inr}
-use mathlib.Core.List.{List}
-use native.Mathlib.Omega.{arith}
-use lib.ListN.{get_or}
-use lib.Seq.{ext_get_or}
+use Rattle.std.proofs.Common.{ℕ, ◌≤◌, ◌<◌, ◌≡◌, sym, ◌∙◌, ◌⊎◌, inl, inr, List, arith, get_or, ext_get_or}
 use Rattle.table.specs.Privilege.{privileges}
 use Rattle.table.proofs.Lists.{le_or_lt}
 use Rattle.policy.specs.Marks.{Allowed, Forbidden, Keeps, Policy}

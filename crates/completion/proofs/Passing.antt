@@ -1,13 +1,6 @@
 -- What a type passes on to its children, and what is granted of its own privileges, by its kind. Assumes nothing.
-use Prim.Native.Nat.{ℕ, ◌+◌, ◌≤◌, ◌<◌}
-use mathlib.Core.Path.{◌≡◌, refl, sym, ap, ◌∙◌}
-use mathlib.Core.Logic.{◌≢◌, ◌⊎◌, inl, inr, ◌↔◌}
-use mathlib.Core.Bool.{Bool, true, false, true≢false}
-use mathlib.Core.List.{List}
-use native.Mathlib.Omega.{arith}
+use Rattle.std.proofs.Common.{ℕ, ◌+◌, ◌≤◌, ◌<◌, ◌≡◌, refl, sym, ap, ◌∙◌, ◌≢◌, ◌⊎◌, inl, inr, ◌↔◌, Bool, true, false, true≢false, List, arith, length, get_or, set, length-set, get_or-set_same, get_or-set_other}
 use native.Mathlib.Decide.{ℕ_discrete}
-use lib.ListN.{length, get_or, set, length-set}
-use lib.Seq.{get_or-set_same, get_or-set_other}
 use Rattle.table.specs.Words.{types}
 use Rattle.table.specs.Rule.{rule_at, kind_in, count_of, children_at, IsChoice, IsStar}
 use Rattle.table.specs.Privilege.{privileges_at, first_privilege, Belongs, exchange_of, replace_of, Exchangeable, Replaceable, Edit, text, insert, delete, exchange, replace, type_of, Offers, privilege_of}

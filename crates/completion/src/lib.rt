@@ -38,6 +38,6 @@ pub fn complete(words: &[u16], marks: &[u8], out: &mut [u8]) -> Answer
         number: 16,
         place: 0,
         count: 0,
-        breach: breach,
+        breach,
     }
 }

@@ -4,17 +4,14 @@ ghost use Rattle.policy.specs.Steps.Squares.{marked};
 ghost use Rattle.completion.specs.Steps.Writing.{KidsOpened};
 
 use policy::rows::leads;
-use table::words::word_at;
 
 // Opens all children.
 pub fn open_all(opened: &mut [u8; 256], kids: &[u16])
     requires { (length opened.old ≡ 256) × ((i : ℕ) → i < length kids.now → get_or kids.now i 0 < 256) }
     ensures { KidsOpened (λ i. Unit) kids.now opened.old opened.new }
 {
-    let mut i = 0;
-    while i < kids.len() {
-        opened[word_at(kids, i)] = 1;
-        i += 1;
+    for &kid in kids {
+        opened[usize::from(kid)] = 1;
     }
 }
 
@@ -23,11 +20,9 @@ pub fn open_cycles(opened: &mut [u8; 256], kids: &[u16], square: &[u16; 16])
     requires { (length opened.old ≡ 256) × (length kids.now ≤ 16) × ((i : ℕ) → i < length kids.now → get_or kids.now i 0 < 256) }
     ensures { KidsOpened (λ i. marked square.now i i ≡ true) kids.now opened.old opened.new }
 {
-    let mut i = 0;
-    while i < kids.len() {
+    for (i, &kid) in kids.iter().enumerate() {
         if leads(square, i, i) {
-            opened[word_at(kids, i)] = 1;
+            opened[usize::from(kid)] = 1;
         }
-        i += 1;
     }
 }

@@ -58,11 +58,10 @@ fn complete_type(words: &[u16], x: usize, first: usize, opened: &mut [u8; 256], 
         complete_opened(words, x, first, opened, m);
         return;
     }
-    let rule = rule_at(words, x);
-    match rule {
-        Rule::Choice { first: _, count: _ } => complete_choice(words, x, first, opened, m),
-        Rule::Star { first: _, count: _ } => complete_star(words, x, first, opened, m),
-        Rule::Empty | Rule::Text | Rule::Sequence { first: _, count: _ } => {
+    match rule_at(words, x) {
+        Rule::Choice { .. } => complete_choice(words, x, first, opened, m),
+        Rule::Star { .. } => complete_star(words, x, first, opened, m),
+        Rule::Empty | Rule::Text | Rule::Sequence { .. } => {
             write_range(m, false, first, first + privileges_at(words, x))
         }
     }
@@ -75,11 +74,9 @@ pub fn complete_all(words: &[u16], order: &[u8; 256], firsts: &[u16; 256], m: &m
     ensures { Filled words.now m.old m.new }
 {
     let mut opened = [0u8; 256];
-    let mut k = types(words);
-    while 0 < k {
-        k -= 1;
-        let x = order[k] as usize;
-        complete_type(words, x, firsts[x] as usize, &mut opened, m);
+    for k in (0..types(words)).rev() {
+        let x = usize::from(order[k]);
+        complete_type(words, x, usize::from(firsts[x]), &mut opened, m);
     }
 }
 

@@ -14,10 +14,8 @@ pub fn write_exchange(m: &mut [u8], n: Numbering)
     requires { (n.first ≤ 4096) × (ExchangeableIn n → exchange_in n < length m.old) }
     ensures { ExchangeWritten n m.old m.new }
 {
-    if is_exchangeable(n) {
-        if both_allowed(m, n) {
-            m[exchange(n)] = 1;
-        }
+    if is_exchangeable(n) && both_allowed(m, n) {
+        m[exchange(n)] = 1;
     }
 }
 
@@ -26,13 +24,7 @@ pub fn write_range(m: &mut [u8], all: bool, from: usize, until: usize)
     requires { until ≤ length m.old }
     ensures { RangeWritten (λ p. (all ≡ true) ⊎ Allowed m.old p) from until m.old m.new }
 {
-    let mut p = from;
-    while p < until {
-        if all {
-            m[p] = 1;
-        } else {
-            m[p] = decided(m[p] == 1);
-        }
-        p += 1;
+    for p in from..until {
+        m[p] = decided(all || m[p] == 1);
     }
 }

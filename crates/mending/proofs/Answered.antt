@@ -1,10 +1,5 @@
 -- Mending has one answer, and what it gives is accepted as a proposed mend with the same count. Assumes nothing.
-use Prim.Native.Nat.{ℕ, ◌≤◌}
-use mathlib.Core.Path.{◌≡◌, refl, sym, ap, ◌∙◌}
-use mathlib.Core.Logic.{inl, inr}
-use mathlib.Core.List.{List, ◌++◌}
-use native.Mathlib.Omega.{arith}
-use lib.ListN.{get_or, drop}
+use Rattle.std.proofs.Common.{ℕ, ◌≤◌, ◌≡◌, refl, sym, ap, ◌∙◌, inl, inr, List, ◌++◌, arith, get_or, drop}
 use Rattle.table.specs.Privilege.{privileges}
 use Rattle.policy.specs.Marks.{Fit, Policy}
 use Rattle.verdict.specs.Answers as answers

@@ -1,11 +1,5 @@
 -- Counting marks, when one that is allowed is forbidden: one less is allowed, and one more has changed. Assumes nothing.
-use Prim.Native.Nat.{ℕ, suc, ◌+◌, ◌≤◌, ◌<◌}
-use mathlib.Core.Path.{◌≡◌, refl, sym, ◌∙◌}
-use mathlib.Core.Logic.{◌≢◌}
-use mathlib.Core.List.{List}
-use native.Mathlib.Omega.{arith}
-use lib.ListN.{length, get_or, set}
-use lib.Seq.{get_or-set_same, get_or-set_other}
+use Rattle.std.proofs.Common.{ℕ, suc, ◌+◌, ◌≤◌, ◌<◌, ◌≡◌, refl, sym, ◌∙◌, ◌≢◌, List, arith, length, get_or, set, get_or-set_same, get_or-set_other}
 use Rattle.table.specs.HowMany.{HowMany}
 use Rattle.table.proofs.HowMany.{many_one, many_most, many_none, many_more, how_many_by, count_by}
 use Rattle.policy.specs.Marks.{Allowed, Forbidden}

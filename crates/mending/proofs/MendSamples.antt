@@ -1,8 +1,6 @@
 -- The mends of sample policies: choices of four that need more than one, and a mend that leaves a breach. One table of rows, and one
 -- statement, proved by one computation. Every expected answer was worked out by hand. S1 to S10 stand in crate samples. Assumes nothing.
-use Prim.Native.Nat.{ℕ}
-use mathlib.Core.Path.{◌≡◌, refl}
-use mathlib.Core.List.{List, [], ◌∷◌, map}
+use Rattle.std.proofs.Common.{ℕ, ◌≡◌, refl, List, [], ◌∷◌, map}
 use Rattle.table.specs.Sum.{sum_below}
 use Rattle.table.specs.Rule.{rule_of, rule_at, children_at, count_of}
 use Rattle.table.specs.Privilege.{gap_of, privileges_at, first_privilege, privileges, replace_of}

@@ -1,13 +1,6 @@
 -- Mending, computed by tests of what specs/ says: what the stated rule gives, with its law, for every run of words and of marks. Assumes
 -- nothing.
-use Prim.Native.Nat.{ℕ, zero, suc, ◌+◌, ◌≤◌}
-use mathlib.Core.Path.{◌≡◌, refl}
-use mathlib.Core.Logic.{inl, inr}
-use mathlib.Core.Bool.{Bool, true, false}
-use mathlib.Core.List.{List}
-use native.Mathlib.Omega.{arith}
-use lib.Dec.{T}
-use lib.ListN.{set}
+use Rattle.std.proofs.Common.{ℕ, zero, suc, ◌+◌, ◌≤◌, ◌≡◌, refl, inl, inr, Bool, true, false, List, arith, T, set}
 use Rattle.table.specs.Steps.Found.{Lowest}
 use Rattle.table.specs.Rule.{count_of}
 use Rattle.table.specs.Privilege.{privileges, delete_of, exchange_of, replace_of}

@@ -1,12 +1,6 @@
 -- What the mending rule gives: one outcome, clean, only 1 became 2, and its count is that of the changed marks. Assumes nothing.
-use Prim.Native.Nat.{ℕ, suc, ◌+◌, ◌≤◌, ◌<◌}
-use mathlib.Core.Path.{◌≡◌, refl, sym, ap, ◌∙◌}
-use mathlib.Core.Logic.{◌⊎◌, inl, inr}
-use mathlib.Core.List.{List}
-use native.Mathlib.Nat.{zero-add, add-zero, add_assoc}
+use Rattle.std.proofs.Common.{ℕ, suc, ◌+◌, ◌≤◌, ◌<◌, ◌≡◌, refl, sym, ap, ◌∙◌, ◌⊎◌, inl, inr, List, zero-add, add-zero, add_assoc, arith, length, set, length-set}
 use native.Mathlib.Decide.{ℕ_discrete}
-use native.Mathlib.Omega.{arith}
-use lib.ListN.{length, set, length-set}
 use Rattle.table.specs.HowMany.{HowMany}
 use Rattle.table.proofs.HowMany.{many_one}
 use Rattle.table.specs.Privilege.{privileges, Belongs, replace_of, delete, exchange, replace}

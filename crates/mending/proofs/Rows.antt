@@ -1,12 +1,6 @@
 -- The rows that a choice's marks were read into, when one of its marks is taken: one bit of each is the other one. Assumes nothing.
-use Prim.Native.Nat.{ℕ, ◌≤◌, ◌<◌}
-use mathlib.Core.Path.{◌≡◌, sym, ◌∙◌}
-use mathlib.Core.Logic.{◌≢◌, ◌⊎◌, inl, inr}
-use mathlib.Core.Bool.{Bool, true, false, not}
-use mathlib.Core.List.{List}
+use Rattle.std.proofs.Common.{ℕ, ◌≤◌, ◌<◌, ◌≡◌, sym, ◌∙◌, ◌≢◌, ◌⊎◌, inl, inr, Bool, true, false, not, List, arith, length, get_or, set}
 use native.Mathlib.Decide.{ℕ_discrete}
-use native.Mathlib.Omega.{arith}
-use lib.ListN.{length, get_or, set}
 use Rattle.table.specs.Steps.Found.{Tells}
 use Rattle.table.specs.Steps.Numbering.{replace_in, ReplaceableIn}
 use Rattle.table.specs.declared.privilege.Numbering.{Numbering}

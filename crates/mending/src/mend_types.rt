@@ -94,12 +94,9 @@ fn mend_type(words: &[u16], m: &mut [u8], flags: &[u8; 256], x: usize, first: us
     requires { Policy words.now m.old × Spoilt words.now m.old flags.now × (x < types words.now) × CleanUpTo words.now m.old x × (first ≡ first_privilege words.now x) }
     ensures { Cleaned words.now flags.now x m.old m.new result }
 {
-    let rule = rule_at(words, x);
-    match rule {
-        Rule::Empty => 0,
-        Rule::Text => 0,
-        Rule::Sequence { first: _, count: _ } => 0,
-        Rule::Choice { first: _, count: _ } => mend_choice(
+    match rule_at(words, x) {
+        Rule::Empty | Rule::Text | Rule::Sequence { .. } => 0,
+        Rule::Choice { .. } => mend_choice(
             words,
             m,
             flags,
@@ -107,7 +104,7 @@ fn mend_type(words: &[u16], m: &mut [u8], flags: &[u8; 256], x: usize, first: us
             children(words, x),
             numbers_at(words, x, first),
         ),
-        Rule::Star { first: _, count: _ } => mend_star(
+        Rule::Star { .. } => mend_star(
             words,
             m,
             flags,
@@ -129,12 +126,9 @@ pub fn mend_all(words: &[u16], order: &[u8; 256], m: &mut [u8]) -> usize
     let e = types(words);
     let mut count = 0;
     let mut first = 0;
-    let mut x = 0;
-    while x < e {
-        let own = privileges_in(words, x, gap);
+    for x in 0..e {
         count += mend_type(words, m, &flags, x, first);
-        first += own;
-        x += 1;
+        first += privileges_in(words, x, gap);
     }
     count
 }

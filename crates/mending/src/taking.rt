@@ -28,13 +28,7 @@ fn is_lead(
     requires { Small n × (i < n.count) × (j < 16) × (k < n.count) × Square n.count (StepIn marks.now n) allowed.now }
     ensures { Tells (LeadsIn marks.now n square.now i j k) result }
 {
-    if !leads(allowed, i, k) {
-        return false;
-    }
-    if k == j {
-        return true;
-    }
-    leads(square, k, j)
+    leads(allowed, i, k) && (k == j || leads(square, k, j))
 }
 
 // The lowest k that leads from i to j: the search begins at the lowest by which i may be replaced.
@@ -50,6 +44,7 @@ fn lowest_lead(
     ensures { LowestIn marks.now n square.now i j result }
 {
     let mut k = first_shared(allowed, allowed, i, n.count);
+    // A while: it ends since there is a k that leads.
     while !is_lead(marks, n, square, allowed, i, j, k) {
         k += 1;
     }

@@ -1,7 +1,5 @@
 -- Judging a proposed mend has one answer. Assumes nothing.
-use Prim.Native.Nat.{ℕ, ◌<◌}
-use mathlib.Core.Path.{◌≡◌, sym, ap, ◌∙◌}
-use mathlib.Core.List.{List}
+use Rattle.std.proofs.Common.{ℕ, ◌<◌, ◌≡◌, sym, ap, ◌∙◌, List}
 use Rattle.table.specs.Lowest.{LowestAt}
 use Rattle.table.proofs.Answers.{lowest_one}
 use Rattle.table.proofs.HowMany.{many_one}

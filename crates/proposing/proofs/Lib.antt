@@ -1,3 +1,4 @@
 -- Laws of the definitions of specs/, and tests that compute them.
 pub mod Answered
 pub mod ProposeTests
+mod Changes

@@ -10,13 +10,7 @@ use table::Found;
 fn is_kept(old: u8, new: u8) -> bool
     ensures { Tells ((new ≡ old) ⊎ ((old ≡ 1) × (new ≡ 2))) result }
 {
-    if new == old {
-        return true;
-    }
-    if old != 1 {
-        return false;
-    }
-    new == 2
+    new == old || (old == 1 && new == 2)
 }
 
 // Is each of v marks kept? All are looked at, many at a time: the loop is not left early.
@@ -25,10 +19,8 @@ fn all_kept(marks: &[u8], proposed: &[u8], v: usize) -> bool
     ensures { Tells ((p : ℕ) → p < v → Kept marks.now proposed.now p) result }
 {
     let mut kept = true;
-    let mut p = 0;
-    while p < v {
-        kept = kept & is_kept(marks[p], proposed[p]);
-        p += 1;
+    for (&old, &new) in marks[..v].iter().zip(&proposed[..v]) {
+        kept &= is_kept(old, new);
     }
     kept
 }
@@ -41,12 +33,10 @@ pub fn lowest_change(marks: &[u8], proposed: &[u8], v: usize) -> Found
     if all_kept(marks, proposed, v) {
         return Found::Nothing;
     }
-    let mut place = 0;
-    while place < v {
+    for place in 0..v {
         if !is_kept(marks[place], proposed[place]) {
             return Found::At(place);
         }
-        place += 1;
     }
     Found::Nothing
 }
@@ -57,12 +47,10 @@ pub fn count_changes(marks: &[u8], proposed: &[u8], v: usize) -> usize
     ensures { HowMany (Changed marks.now proposed.now) v result }
 {
     let mut count = 0u16;
-    let mut p = 0;
-    while p < v {
-        if proposed[p] != marks[p] {
+    for (old, new) in marks[..v].iter().zip(&proposed[..v]) {
+        if new != old {
             count += 1;
         }
-        p += 1;
     }
-    count as usize
+    usize::from(count)
 }

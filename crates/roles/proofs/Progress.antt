@@ -1,10 +1,5 @@
 -- The roles one after another: what is done when the first n are. Assumes nothing.
-use Prim.Native.Nat.{ℕ, ◌+◌, ◌-◌, ◌*◌, ◌≤◌, ◌<◌}
-use mathlib.Core.Path.{◌≡◌, refl, sym, ap, ◌∙◌}
-use mathlib.Core.List.{List}
-use native.Mathlib.Omega.{arith}
-use lib.ListN.{length, get_or, set, take, drop, length-set}
-use lib.Seq.{drop-drop}
+use Rattle.std.proofs.Common.{ℕ, ◌+◌, ◌-◌, ◌*◌, ◌≤◌, ◌<◌, ◌≡◌, refl, sym, ap, ◌∙◌, List, arith, length, get_or, set, take, drop, length-set, drop-drop}
 use borrow.Rule.Slice.PartMut.{put_mid, mid_of, same_len_mid, mid_len}
 use Rattle.table.specs.Privilege.{privileges}
 use Rattle.table.proofs.Lists.{fill_more}

@@ -1,10 +1,6 @@
 -- A show of six roles on the sample schema: S1, S2, S3, one with a mark of 3, S7 and S8. What a call leaves of each, whatever was lent, was worked out by
 -- hand: one table of rows, and one statement, proved by one computation. Assumes nothing.
-use Prim.Native.Nat.{ℕ, ◌≤◌, ◌<◌}
-use mathlib.Core.Path.{◌≡◌, refl}
-use mathlib.Core.List.{List, [], ◌∷◌, ◌++◌, map}
-use native.Mathlib.Omega.{arith}
-use lib.ListN.{length, get_or}
+use Rattle.std.proofs.Common.{ℕ, ◌≤◌, ◌<◌, ◌≡◌, refl, List, [], ◌∷◌, ◌++◌, map, arith, length, get_or}
 use Rattle.table.specs.Sum.{sum_below}
 use Rattle.table.specs.Rule.{rule_of, rule_at, children_at, count_of}
 use Rattle.table.specs.Privilege.{gap_of, privileges_at, first_privilege, privileges, replace_of}

@@ -16,17 +16,11 @@ use table::privilege::first_privileges;
 use verdict::breaches::first_breach;
 use verdict::{Answer, Condition, refused};
 
-// Is a length that of so many stretches of v? Asked by division, since the product can be more than a number holds.
+// Is a length that of so many stretches of v? The product can be more than a number holds.
 fn is_product(length: usize, stretches: usize, v: usize) -> bool
     ensures { Tells (length ≡ stretches * v) result }
 {
-    if v == 0 {
-        return length == 0;
-    }
-    if length / v != stretches {
-        return false;
-    }
-    stretches * v == length
+    stretches.checked_mul(v) == Some(length)
 }
 
 // Completes one role's marks into its stretch, and tells its number: 11 or 16, with the stretch as it was, or 0.
@@ -67,16 +61,14 @@ fn complete_each(
 {
     let mut firsts = [0u16; 256];
     first_privileges(words, &mut firsts);
-    let mut r = 0;
-    while r < numbers.len() {
-        numbers[r] = complete_role(
+    for (r, number) in numbers.iter_mut().enumerate() {
+        *number = complete_role(
             words,
             &marks[r * v..(r + 1) * v],
             order,
             &firsts,
             &mut out[r * v..(r + 1) * v],
         );
-        r += 1;
     }
 }
 

@@ -3,17 +3,10 @@ use Rattle.proposing.specs.Answers.{AllKept, refused, unfit, changed, broken, ac
 use Rattle.verdict.proofs.Firsts.{verdict_clean, verdict_broken}
 use Rattle.policy.proofs.Policies.{policy_refused, policy_fits, marks_refused, marks_fit}
 use Rattle.policy.specs.Marks.{Fit, Policy}
-use Rattle.table.specs.Steps.Order.{BottomUp}
 use Rattle.table.specs.Privilege.{privileges}
 use Rattle.table.proofs.Facts.{facts}
-use lib.ListN.{length}
-use Prim.Native.Nat.{◌≤◌}
-use native.Mathlib.Omega.{arith}
-use mathlib.Core.Path.{◌≡◌, refl}
+use Rattle.std.proofs.Common.{length, ◌≤◌, arith, ◌≡◌, refl}
 use Rattle.proposing.proofs.judge_mend.Goals as goal
-
-pub check_policy-checked-requires : goal.check_policy-checked-requires
-check_policy-checked-requires c = refl
 
 pub returns-then-checked-ne0 : goal.returns-then-checked-ne0
 returns-then-checked-ne0 c = refused (policy_refused c.if-checked-ne0.true c.check_policy-checked.ensures.answer) c.refused.ensures
@@ -23,24 +16,11 @@ returns-then-unfit-ne0 c = let policy : Policy c.args.words.now c.args.marks.now
     let p = policy in
     unfit p.0 (rw p.1 at (marks_refused c.if-unfit-ne0.true c.check_marks-fit.ensures)) c.refused-then-unfit-ne0.ensures
 
-pub lowest_change-found-requires : goal.lowest_change-found-requires
-lowest_change-found-requires c = let policy : Policy c.args.words.now c.args.marks.now × (c.check_policy-checked.result.place ≡ privileges c.args.words.now) = policy_fits c.if-checked-ne0.false c.check_policy-checked.ensures.answer in
-    let fit : Fit (privileges c.args.words.now) c.args.proposed.now = rw policy.1 at (marks_fit (omega arith) c.if-unfit-ne0.false c.check_marks-fit.ensures) in
-    let sizes : let v = c.check_policy-checked.result.place in (v ≤ length c.args.marks.now) × (v ≤ length c.args.proposed.now) = let p = policy in (omega (arith, p.1, p.0.fit.size), omega (arith, p.1, fit.size)) in
-    sizes
-
 pub returns-in-At : goal.returns-in-At
 returns-in-At c = let policy : Policy c.args.words.now c.args.marks.now × (c.check_policy-checked.result.place ≡ privileges c.args.words.now) = policy_fits c.if-checked-ne0.false c.check_policy-checked.ensures.answer in
     let fit : Fit (privileges c.args.words.now) c.args.proposed.now = rw policy.1 at (marks_fit (omega arith) c.if-unfit-ne0.false c.check_marks-fit.ensures) in
     let p = policy in
     changed p.0 fit (rw p.1 at (rw c.in-At.is at c.lowest_change-found.ensures)) c.refused-in-At.ensures
-
-pub first_breach-breach-requires : goal.first_breach-breach-requires
-first_breach-breach-requires c = let policy : Policy c.args.words.now c.args.marks.now × (c.check_policy-checked.result.place ≡ privileges c.args.words.now) = policy_fits c.if-checked-ne0.false c.check_policy-checked.ensures.answer in
-    let fit : Fit (privileges c.args.words.now) c.args.proposed.now = rw policy.1 at (marks_fit (omega arith) c.if-unfit-ne0.false c.check_marks-fit.ensures) in
-    let proposed_policy : Policy c.args.words.now c.args.proposed.now = record { accepted = policy.0.accepted; fit = fit } in
-    let ordered : BottomUp c.args.words.now c.check_policy-checked.new.order = c.check_policy-checked.ensures.up c.if-checked-ne0.false in
-    (proposed_policy, ordered)
 
 pub count_changes-requires : goal.count_changes-requires
 count_changes-requires c = let policy : Policy c.args.words.now c.args.marks.now × (c.check_policy-checked.result.place ≡ privileges c.args.words.now) = policy_fits c.if-checked-ne0.false c.check_policy-checked.ensures.answer in

@@ -1,6 +1,5 @@
 -- Its marks are as many as the stretch is long; they are a policy, or one is above 2. Assumes nothing.
-use mathlib.Core.Path.{refl, sym, ◌∙◌}
-use native.Mathlib.Omega.{arith}
+use Rattle.std.proofs.Common.{refl, sym, arith}
 use Rattle.policy.specs.Marks.{Policy, marks}
 use Rattle.policy.proofs.Policies.{marks_refused, marks_fit}
 use Rattle.verdict.specs.Answers.{refusal, breached, done}
@@ -18,15 +17,6 @@ returns-then-fit-ne0 c = let pre = c.requires in
       single = refused (marks pre.0 (rw pre.4 at (marks_refused c.if-fit-ne0.true c.check_marks-fit.ensures))) refl refl;
       is = refl;
     }
-
-pub first_breach-breach-requires : goal.first_breach-breach-requires
-first_breach-breach-requires c = let policy : let a = c.args in Policy a.words.now a.marks.now = let pre = c.requires in record { accepted = pre.0; fit = rw pre.4 at (marks_fit (omega arith) c.if-fit-ne0.false c.check_marks-fit.ensures) } in
-    (policy, c.requires.1)
-
-pub complete_copy-requires : goal.complete_copy-requires
-complete_copy-requires c = let policy : let a = c.args in Policy a.words.now a.marks.now = let pre = c.requires in record { accepted = pre.0; fit = rw pre.4 at (marks_fit (omega arith) c.if-fit-ne0.false c.check_marks-fit.ensures) } in
-    let pre = c.requires in
-    (policy, pre.1, pre.2, pre.4 ∙ sym pre.3)
 
 pub returns-in-None : goal.returns-in-None
 returns-in-None c = let policy : let a = c.args in Policy a.words.now a.marks.now = let pre = c.requires in record { accepted = pre.0; fit = rw pre.4 at (marks_fit (omega arith) c.if-fit-ne0.false c.check_marks-fit.ensures) } in

@@ -1,11 +1,6 @@
--- The loop has opened the children up to i. Assumes nothing.
-use Prim.Native.Nat.{◌-◌}
-use lib.ListN.{length}
+-- The loop has opened the children passed so far. Assumes nothing.
 use Rattle.completion.proofs.Openings.{OpenedSoFar}
 use Rattle.completion.proofs.open.open_all.Given as goal
 
-abbrev pub invariant-loop-i : goal.invariant-loop-i
-invariant-loop-i l = OpenedSoFar (λ k. Unit) l.kids l.i l.initial.opened l.opened
-
-abbrev pub decreases-loop-i : goal.decreases-loop-i
-decreases-loop-i l = length l.kids - l.i
+abbrev pub invariant-loop-kid : goal.invariant-loop-kid
+invariant-loop-kid l = OpenedSoFar (λ k. Unit) l.kids l.kid-index l.initial.opened l.opened

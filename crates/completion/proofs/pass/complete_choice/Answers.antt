@@ -5,15 +5,6 @@ use Rattle.policy.proofs.SquareLaws.{policy_room}
 use Rattle.completion.proofs.Passing.{choice_kids, choice_own, kids_few, kids_small}
 use Rattle.completion.proofs.pass.complete_choice.Goals as goal
 
-pub numbers_at-n-requires : goal.numbers_at-n-requires
-numbers_at-n-requires c = let visit = c.requires.0 in (visit.policy.accepted, visit.type, visit.first_is)
-
-pub reached-square-requires : goal.reached-square-requires
-reached-square-requires c = let numbered : let a = c.args in NumberedAs a.words.now a.x c.numbers_at-n.result = c.numbers_at-n.ensures in
-    let pre = c.requires in
-    let visit = pre.0 in
-    (visit.policy, pre.2, numbered)
-
 pub children-requires : goal.children-requires
 children-requires c = let visit = c.requires.0 in has_children visit.policy.accepted visit.type
 

@@ -1,6 +1,5 @@
 -- Everything of an opened type is granted, and it passes opening on to each child. Assumes nothing.
-use mathlib.Core.Logic.{inl}
-use native.Mathlib.Omega.{arith}
+use Rattle.std.proofs.Common.{inl, arith}
 use Rattle.table.proofs.Facts.{has_children, has_record}
 use Rattle.completion.proofs.Openings.{kids_as}
 use Rattle.completion.proofs.Passing.{kids_small, opened_own, visit_end, visit_fits}

@@ -1,5 +1,5 @@
 -- What is granted of a star that is not opened is what is allowed, and its child is opened where both its marks are. Assumes nothing.
-use native.Mathlib.Omega.{arith}
+use Rattle.std.proofs.Common.{arith}
 use Rattle.table.specs.Rule.{children_at}
 use Rattle.table.specs.Steps.Numbering.{NumberedAs}
 use Rattle.table.proofs.Facts.{has_children, has_record}
@@ -9,16 +9,9 @@ use Rattle.policy.proofs.Renewals.{renewed_out, renewed_into}
 use Rattle.completion.specs.Steps.Opens.{PassesOn}
 use Rattle.completion.specs.Steps.Writing.{KidsOpened}
 use Rattle.completion.proofs.Openings.{kids_none}
-use Rattle.completion.proofs.Passing.{star_own, exchange_room, star_passes, star_kids, kids_small, visit_end, visit_fits}
+use Rattle.completion.proofs.Passing.{star_own, exchange_room, star_passes, star_kids, kids_small, visit_end}
 use Rattle.completion.proofs.pass.complete_star.Goals as goal
 use Rattle.completion.proofs.pass.complete_star.Goals.{then-is_renewed, else-is_renewed}
-
-pub numbers_at-n-requires : goal.numbers_at-n-requires
-numbers_at-n-requires c = let visit = c.requires.0 in (visit.policy.accepted, visit.type, visit.first_is)
-
-pub is_renewed-requires : goal.is_renewed-requires
-is_renewed-requires c = let numbered : let a = c.args in NumberedAs a.words.now a.x c.numbers_at-n.result = c.numbers_at-n.ensures in
-    numbered.low
 
 pub children-requires : goal.children-requires
 children-requires c = let visit = c.requires.0 in has_children visit.policy.accepted (omega (arith, visit.type))
@@ -35,10 +28,6 @@ write_exchange-requires c = let numbered : let a = c.args in NumberedAs a.words.
 pub privileges_at-requires : goal.privileges_at-requires
 privileges_at-requires c = let visit = c.requires.0 in
     has_record visit.policy.accepted visit.type
-
-pub overflow_add-first : goal.overflow_add-first
-overflow_add-first c = let visit = c.requires.0 in
-    omega (arith, visit_fits visit c.privileges_at.ensures.is)
 
 pub write_range-requires : goal.write_range-requires
 write_range-requires c = let visit = c.requires.0 in

@@ -1,15 +1,10 @@
 -- By the type's flag, and then by the cases of its rule. Assumes nothing.
-use Prim.Native.Nat.{ℕ}
-use mathlib.Core.Path.{◌≡◌, sym, ap, ◌∙◌}
-use mathlib.Core.Logic.{◌≢◌, ◌⊎◌, inl, inr}
-use native.Mathlib.Omega.{arith}
-use lib.ListN.{get_or}
-use borrow.Author.Tests.{eq-eqb, ne_eqb}
-use Rattle.table.specs.Rule.{rule_at, kind_in}
+use Rattle.std.proofs.Common.{ℕ, ◌≡◌, sym, ap, ◌∙◌, ◌≢◌, ◌⊎◌, inl, inr, arith, get_or, ne_eqb}
+use Rattle.table.specs.Rule.{kind_in}
 use Rattle.table.specs.declared.rule.Rule.{Rule}
 use Rattle.table.specs.declared.rule.Rule.TheVariants.{Empty, Text, Sequence}
 use Rattle.table.proofs.Facts.{facts, has_record}
-use Rattle.table.proofs.Lowest.{told_yes, told_no}
+use Rattle.table.proofs.Lowest.{told_no}
 use Rattle.policy.specs.Marks.{Allowed}
 use Rattle.completion.specs.Steps.Opens.{Opened}
 use Rattle.completion.specs.Steps.Writing.{is_open}
@@ -26,23 +21,8 @@ plain e (inr (inr s)) = let k = ap kind_in (e ∙ s.2) in (λ q. omega arith, λ
 pub bounds-opened-x : goal.bounds-opened-x
 bounds-opened-x c = omega (arith, c.requires.type, (facts c.requires.policy.accepted).few)
 
-pub complete_opened-requires : goal.complete_opened-requires
-complete_opened-requires c = (c.requires, told_yes (is_open c.args.opened.now c.args.x) c.requires.told (eq-eqb (get_or c.args.opened.now c.args.x 0) 1 (omega arith)))
-
-pub rule_at-rule-requires : goal.rule_at-rule-requires
-rule_at-rule-requires c = let visit = c.requires in has_record visit.policy.accepted visit.type
-
-pub complete_choice-requires : goal.complete_choice-requires
-complete_choice-requires c = let shut : let a = c.args in ¬ Opened a.words.now (Allowed a.m.now) a.x = told_no (is_open c.args.opened.now c.args.x) c.requires.told (ne_eqb (get_or c.args.opened.now c.args.x 0) 1 (λ e. omega arith)) in
-    let kind_here : ℕ = let a = c.args in kind_in (rule_at a.words.now a.x) in
-    let kind : (r : Rule) → c.rule_at-rule.result ≡ r → kind_here ≡ kind_in r = λ r e. ap kind_in (sym c.rule_at-rule.ensures.is ∙ e) in
-    (c.requires, shut, record { type = c.requires.type; kind_is = kind _ c.in-Choice.is })
-
-pub complete_star-requires : goal.complete_star-requires
-complete_star-requires c = let shut : let a = c.args in ¬ Opened a.words.now (Allowed a.m.now) a.x = told_no (is_open c.args.opened.now c.args.x) c.requires.told (ne_eqb (get_or c.args.opened.now c.args.x 0) 1 (λ e. omega arith)) in
-    let kind_here : ℕ = let a = c.args in kind_in (rule_at a.words.now a.x) in
-    let kind : (r : Rule) → c.rule_at-rule.result ≡ r → kind_here ≡ kind_in r = λ r e. ap kind_in (sym c.rule_at-rule.ensures.is ∙ e) in
-    (c.requires, shut, record { type = c.requires.type; kind_is = kind _ c.in-Star.is })
+pub rule_at-requires : goal.rule_at-requires
+rule_at-requires c = let visit = c.requires in has_record visit.policy.accepted visit.type
 
 pub privileges_at-requires : goal.privileges_at-requires
 privileges_at-requires c = let visit = c.requires in has_record visit.policy.accepted visit.type
@@ -56,7 +36,7 @@ write_range-requires c = visit_end c.requires c.privileges_at.ensures.is
 pub returns-in-Empty : goal.returns-in-Empty
 returns-in-Empty c =
     let a = c.args in
-    let neither = plain (sym c.rule_at-rule.ensures.is) c.in-Empty.is in
+    let neither = plain (sym c.rule_at.ensures.is) c.in-Empty.is in
     let shut : ¬ Opened a.words.now (Allowed a.m.now) a.x = told_no (is_open c.args.opened.now c.args.x) c.requires.told (ne_eqb (get_or c.args.opened.now c.args.x 0) 1 (λ e. omega arith)) in
     record {
       kids = kids_none c.requires.size (λ i l. plain_passes shut neither.0 neither.1);

@@ -1,5 +1,5 @@
 -- Each turn takes what the rule takes next, and one mark less is allowed. Assumes nothing.
-use native.Mathlib.Omega.{arith}
+use Rattle.std.proofs.Common.{arith}
 use Rattle.mending.specs.Steps.Taking.{TakenAt, start}
 use Rattle.mending.proofs.Staying.{next_within, next_less, mending_take, mending_few}
 use Rattle.mending.proofs.mend_types.mend_renewed.Goals as goal

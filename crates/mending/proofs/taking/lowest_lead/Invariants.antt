@@ -1,6 +1,6 @@
 -- The loop has passed no lower lead, and there is one. Assumes nothing.
 use Rattle.mending.specs.Steps.Taking.{LeadsIn}
-use Prim.Native.Nat.{ℕ, ◌-◌, ◌<◌}
+use Rattle.std.proofs.Common.{ℕ, ◌-◌, ◌<◌}
 use Rattle.mending.proofs.taking.lowest_lead.Given as goal
 
 abbrev pub invariant-loop-n : goal.invariant-loop-n

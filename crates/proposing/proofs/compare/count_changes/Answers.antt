@@ -1,37 +1,30 @@
 -- The loop has counted the changes passed. Assumes nothing.
-use borrow.Author.Rules.{rules}
+use Rattle.std.proofs.Common.{◌≡◌, take, length-append, arith, rules}
+use Rattle.std.proofs.lemmas.Slice.Zip.{zip_turn}
+use Rattle.std.specs.Iterator.Adapters.{zip_first, zip_second}
+use Rattle.std.specs.Slice.Iter.{iter_rest}
 use Rattle.table.specs.HowMany.{none}
 use Rattle.table.proofs.HowMany.{many_next, many_skip}
-use native.Mathlib.Omega.{arith}
-use mathlib.Core.Path.{◌≡◌}
+use Rattle.proposing.proofs.Changes.{pair_changed, pair_kept}
 use Rattle.proposing.proofs.compare.count_changes.Goals as goal
-use Rattle.proposing.proofs.compare.count_changes.Goals.{then-proposed-p, else-proposed-p}
 
-pub loop-p-init : goal.loop-p-init
-loop-p-init c = (search rules, none, search rules)
+pub loop-old-init : goal.loop-old-init
+loop-old-init c = (none, omega arith)
 
-pub bounds-proposed-p : goal.bounds-proposed-p
-bounds-proposed-p c = omega (arith, c.loop-p-test.true, c.requires.1)
+pub loop-old-preserved-then-new-old : goal.loop-old-preserved-then-new-old
+loop-old-preserved-then-new-old c =
+    let m = c.args.marks.now in
+    let n = c.args.proposed.now in
+    let first : iter_rest (zip_first c.into_iter-old-iterator.result) ≡ take c.args.v m = search rules in
+    let second : iter_rest (zip_second c.into_iter-old-iterator.result) ≡ take c.args.v n = search rules in
+    let turn = zip_turn _ _ c.loop-old.yielded c.into_iter-old-iterator.result c.loop-old.old-iterator c.next.new.self _ first second c.loop-old.yielded_by _ c.in-Some.is c.next.ensures.steps in
+    rw length-append (many_next c.loop-old.invariant.0 (pair_changed m n c.args.v turn c.if-new-old.true), omega arith)
 
-pub bounds-marks-p : goal.bounds-marks-p
-bounds-marks-p c = omega (arith, c.loop-p-test.true, c.requires.0)
-
-pub overflow_add-count : goal.overflow_add-count
-overflow_add-count c = omega (arith, c.loop-p.invariant.2, c.loop-p.invariant.0, c.requires.2)
-
-pub loop-p-smaller : goal.loop-p-smaller
-loop-p-smaller c = omega arith
-
-pub loop-p-preserved : goal.loop-p-preserved
-loop-p-preserved c = let h = c.loop-p.invariant.1 in
-    elim c.if-proposed-p.branch [
-      | then-proposed-p w ↦ (search rules, rw w.count-is (many_next h w.if-proposed-p.true), omega (arith, w.count-is, c.loop-p.invariant.2))
-      | else-proposed-p w ↦ (search rules, rw w.count-is (many_skip h (λ d. d w.if-proposed-p.false)), omega (arith, w.count-is, c.loop-p.invariant.2))
-    ]
-
-pub overflow_cast-result : goal.overflow_cast-result
-overflow_cast-result c = omega (arith, c.loop-p.invariant.2, c.loop-p.invariant.0, c.requires.2)
-
-pub returns : goal.returns
-returns c = let end : c.loop-p.p ≡ c.args.v = omega (arith, c.loop-p.invariant.0, c.loop-p-test.false) in
-    rw (← end) c.loop-p.invariant.1
+pub loop-old-preserved : goal.loop-old-preserved
+loop-old-preserved c =
+    let m = c.args.marks.now in
+    let n = c.args.proposed.now in
+    let first : iter_rest (zip_first c.into_iter-old-iterator.result) ≡ take c.args.v m = search rules in
+    let second : iter_rest (zip_second c.into_iter-old-iterator.result) ≡ take c.args.v n = search rules in
+    let turn = zip_turn _ _ c.loop-old.yielded c.into_iter-old-iterator.result c.loop-old.old-iterator c.next.new.self _ first second c.loop-old.yielded_by _ c.in-Some.is c.next.ensures.steps in
+    rw length-append (many_skip c.loop-old.invariant.0 (pair_kept m n c.args.v turn c.if-new-old.false), omega arith)
