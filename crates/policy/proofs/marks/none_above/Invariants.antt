@@ -1,5 +1,5 @@
 -- The flag tells of the marks passed. Assumes nothing.
-use Rattle.std.proofs.Common.{ℕ, ◌≤◌, ◌<◌, get_or}
+use Rattle.std.proofs.Common.{ℕ, ◌<◌, ◌≤◌, get_or}
 use Rattle.table.specs.Steps.Found.{Tells}
 use Rattle.policy.proofs.marks.none_above.Given as goal
 

@@ -1,5 +1,5 @@
 -- By the bits of what they share. Assumes nothing.
-use Rattle.std.proofs.Common.{◌≡◌, ℕ, ◌<◌, Bool, true, false, not, bit_and, refl, arith}
+use Rattle.std.proofs.Common.{◌≡◌, ℕ, ◌<◌, Bool, true, false, not, refl, bit_and, arith}
 use mir.Val.{bool_byte}
 use Rattle.table.specs.Steps.Found.{Tells}
 use Rattle.table.proofs.Lowest.{tells_eq}

@@ -1,4 +1,5 @@
 -- By the cases of the check, each from what its own function tells. Assumes nothing.
+use Rattle.std.proofs.Common.{ℕ, ◌<◌, List, arith}
 use Rattle.table.proofs.Children.{tiled, childed, laid_record, tiled_children}
 use Rattle.table.specs.Words.{types}
 use Rattle.table.specs.Steps.Reading.{HasChildren}
@@ -6,9 +7,6 @@ use Rattle.table.specs.Check.{Laid, rank_of}
 use Rattle.table.specs.Steps.Flags.{Asked}
 use Rattle.table.specs.declared.check.Check.{Check}
 use Rattle.table.specs.declared.check.Check.TheVariants.{Layout, Bounds, Twice, Cycle}
-use Prim.Native.Nat.{ℕ, ◌<◌}
-use mathlib.Core.List.{List}
-use native.Mathlib.Omega.{arith}
 use Rattle.table.proofs.check.holds_at.Goals as goal
 
 -- a check behind the second looks at a run that is laid out as a table, and one behind the fifth at one whose children are all there

@@ -1,5 +1,5 @@
 -- For check 8 the types below the root are marked; for another one nothing is asked. Assumes nothing.
-use native.Mathlib.Omega.{arith}
+use Rattle.std.proofs.Common.{arith}
 use Rattle.table.specs.declared.check.Check.TheVariants.{Unreached}
 use Rattle.table.proofs.Children.{childed}
 use Rattle.table.proofs.Cycles.{root_inside}

@@ -1,6 +1,6 @@
 -- The loop keeps the first privilege of the type it stands at, has written those of the types passed, and writes none behind the types. Assumes
 -- nothing.
-use Rattle.std.proofs.Common.{◌≡◌, ℕ, ◌≤◌, ◌<◌, length, get_or}
+use Rattle.std.proofs.Common.{◌≡◌, ℕ, ◌<◌, ◌≤◌, length, get_or}
 use Rattle.table.specs.Privilege.{first_privilege}
 use Rattle.table.proofs.privilege.first_privileges.Given as goal
 

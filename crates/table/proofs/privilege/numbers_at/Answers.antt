@@ -1,8 +1,7 @@
 -- Read off the record and the format; an accepted table keeps the numbers small. Assumes nothing.
+use Rattle.std.proofs.Common.{sym, ◌∙◌, arith}
 use Rattle.table.proofs.Facts.{facts, has_record, count_recorded}
 use Rattle.table.proofs.Privileges.{first_within}
-use mathlib.Core.Path.{sym, ◌∙◌}
-use native.Mathlib.Omega.{arith}
 use Rattle.table.proofs.privilege.numbers_at.Goals as goal
 
 pub record_word-requires : goal.record_word-requires

@@ -1,7 +1,5 @@
 -- The square of a count is below 2 ^ 32. Assumes nothing.
-use Prim.Native.Nat.{◌*◌, ◌≤◌}
-use mathlib.Core.Path.{◌≡◌}
-use native.Mathlib.Omega.{arith}
+use Rattle.std.proofs.Common.{◌≡◌, ◌*◌, ◌≤◌, arith}
 use Rattle.table.proofs.Privileges.{square_few, choices_few, others_few, summed_one}
 use Rattle.table.proofs.privilege.privileges_of.Goals as goal
 
