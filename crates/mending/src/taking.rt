@@ -10,7 +10,6 @@ ghost use Rattle.mending.specs.Steps.Taking.{Visited, LeadsIn, LowestIn, StarTak
 
 use policy::renew::both_allowed;
 use policy::rows::{first_shared, leads};
-use table::Found;
 use table::privilege::{Numbering, deletion, exchange};
 use verdict::Condition;
 use verdict::breaches::{breach_in, star_breach};
@@ -86,15 +85,15 @@ pub fn star_taken(
     x: usize,
     kids: &[u16],
     n: Numbering,
-) -> Found
+) -> Option<usize>
     requires { Visited words.now m.now flags.now x kids.now n × IsStar words.now x }
     ensures { StarTaken words.now m.now x result }
 {
     let Some(_) = star_breach(words, m, flags, x, kids, n) else {
-        return Found::Nothing;
+        return None;
     };
     if both_allowed(m, n) {
-        return Found::At(deletion(n));
+        return Some(deletion(n));
     }
-    Found::At(exchange(n))
+    Some(exchange(n))
 }
