@@ -5,7 +5,7 @@ use mathlib.Core.Logic.{◌≢◌}
 use mathlib.Core.List.{List}
 use native.Mathlib.Omega.{arith}
 use Rattle.table.specs.Words.{types, count_at, first_at, running}
-use Rattle.table.specs.Check.{RightCount, Follows}
+use Rattle.table.specs.Check.{Follows}
 use Rattle.table.proofs.Sum.{sum_more}
 
 -- the running index past a type whose children follow on
@@ -25,11 +25,3 @@ last_rank (suc (suc (suc (suc (suc (suc (suc zero))))))) h d = absurd (d.6 refl)
 last_rank (suc (suc (suc (suc (suc (suc (suc (suc zero)))))))) h d = absurd (d.7 refl)
 last_rank (suc (suc (suc (suc (suc (suc (suc (suc (suc zero))))))))) h d = absurd (d.8 refl)
 last_rank (suc (suc (suc (suc (suc (suc (suc (suc (suc (suc n)))))))))) h d = omega arith
-
-pub few_children : (kind count : ℕ) → kind ≤ 4 → RightCount kind count → count ≤ 16
-few_children zero n h r = omega (arith, r.empty refl)
-few_children (suc zero) n h r = omega (arith, r.text refl)
-few_children (suc (suc zero)) n h r = (r.sequence refl).1
-few_children (suc (suc (suc zero))) n h r = (r.choice refl).1
-few_children (suc (suc (suc (suc zero)))) n h r = omega (arith, r.star refl)
-few_children (suc (suc (suc (suc (suc k))))) n h r = absurd (omega arith)
