@@ -10,7 +10,6 @@ pub mod walk;
 
 use list::enter;
 use misnamed::first_wrong;
-use table::Found;
 use walk::{Declared, declaration_from, place_behind};
 
 // Lists the first 256 declared names, and answers how many there are.
@@ -30,18 +29,18 @@ pub fn collect(s: &[u8], list: &mut [u16; 512]) -> usize
 }
 
 // The first name that is declared before, or used and never declared.
-pub fn first_misnamed(s: &[u8], list: &[u16; 512], count: usize) -> Found
+pub fn first_misnamed(s: &[u8], list: &[u16; 512], count: usize) -> Option<usize>
     ensures { MisnamedRead s.now list.now count result }
 {
     let mut at = 0;
     let mut m = 0;
     // A while: declarations have any length.
     while let Some(Declared { name, body }) = declaration_from(s, at) {
-        if let Found::At(k) = first_wrong(s, list, count, m, name, body) {
-            return Found::At(k);
+        if let Some(k) = first_wrong(s, list, count, m, name, body) {
+            return Some(k);
         }
         at = place_behind(s, at, body);
         m += 1;
     }
-    Found::Nothing
+    None
 }

@@ -83,10 +83,7 @@ pub(crate) fn enter(s: &[u8], list: &mut [u16; 512], count: usize, at: usize)
     requires { length list.old ≡ 512 }
     ensures { Entered s.now list.old count at list.new }
 {
-    if 255 < count {
-        return;
-    }
-    if 65535 < at {
+    if count > 255 || at > 65535 {
         return;
     }
     let k = rank(s, list, count, at);

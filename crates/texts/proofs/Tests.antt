@@ -1,20 +1,10 @@
 -- Tests of the bytes of a text, and the smallest pieces read by them. Assumes nothing.
-use Prim.Native.Nat.{ℕ, zero, suc, ◌+◌, ◌≤◌}
-use mathlib.Core.Path.{◌≡◌, refl, subst}
-use mathlib.Core.Logic.{inl, inr}
-use mathlib.Core.Bool.{Bool, true, false}
-use mathlib.Core.List.{List, [], ◌∷◌}
-use mathlib.Core.Option.{Option, none, some}
-use native.Mathlib.Omega.{arith}
-use lib.Dec.{T, eqb}
-use lib.ListN.{length, get_or}
-use borrow.Author.Tests.{eqb-true, eq-eqb}
+use Rattle.std.proofs.Common.{ℕ, zero, suc, ◌+◌, ◌≤◌, ◌≡◌, refl, subst, inl, inr, Bool, true, false, List, [], ◌∷◌, Option, Some, None, arith, T, eqb, length, get_or, eqb-true, eq-eqb, Result, Ok, Err}
 use Rattle.table.proofs.Test.{Test, means}
 use Rattle.grammar.specs.Bytes.{is_space, is_name_start, is_name_byte, Byte, Of, Span, stop, go_on, done}
 use Rattle.scan.specs.Steps.Agree.{peek}
 use Rattle.scan.specs.Steps.Readers.{BlanksRead, SpaceRead, MaybeRead, taken, left, NameRead, here, WordRead}
 use Rattle.scan.specs.declared.Stop.{Stop}
-use Rattle.std.proofs.Common.{Result, Ok, Err}
 use Rattle.scan.specs.declared.Stop.TheVariants.{Bad, Over}
 use Rattle.grammar.proofs.Stopping.{le_or_lt}
 use Rattle.scan.proofs.Agreeing.{peek_byte, peek_end}
@@ -71,19 +61,19 @@ pub one_blank : {t : List ℕ} {a b : ℕ} → Of is_space t a → BlanksRead t 
 one_blank o x = record { inside = x.inside; blanks = go_on o x.blanks; over = x.over }
 
 abbrev blank_more : (t : List ℕ) (a : ℕ) → Of is_space t a → Blank t (suc a) → Blank t a
-blank_more t a o none = none
-blank_more t a o (some x) = some (x.0, one_blank o x.1)
+blank_more t a o None = None
+blank_more t a o (Some x) = Some (x.0, one_blank o x.1)
 
 abbrev pub blanks_at : (n : ℕ) (t : List ℕ) (a : ℕ) → a ≤ length t → Blank t a
-blanks_at zero t a l = none
-blanks_at (suc n) t a l = when (of is_space t a) (λ o. blank_more t a o (blanks_at n t (suc a) o.within)) (λ f. some (a, record { inside = l; blanks = stop; over = f }))
+blanks_at zero t a l = None
+blanks_at (suc n) t a l = when (of is_space t a) (λ o. blank_more t a o (blanks_at n t (suc a) o.within)) (λ f. Some (a, record { inside = l; blanks = stop; over = f }))
 
 abbrev space_more : (t : List ℕ) (a : ℕ) → Of is_space t a → Blank t (suc a) → Option ((r : Result ℕ Stop) × SpaceRead t a r)
-space_more t a o none = none
-space_more t a o (some x) = some (Ok x.0, (o, x.1))
+space_more t a o None = None
+space_more t a o (Some x) = Some (Ok x.0, (o, x.1))
 
 abbrev pub space_at : (n : ℕ) (t : List ℕ) (a : ℕ) → Option ((r : Result ℕ Stop) × SpaceRead t a r)
-space_at n t a = when (of is_space t a) (λ o. space_more t a o (blanks_at n t (suc a) o.within)) (λ f. some (Err (Bad a), (refl, f)))
+space_at n t a = when (of is_space t a) (λ o. space_more t a o (blanks_at n t (suc a) o.within)) (λ f. Some (Err (Bad a), (refl, f)))
 
 -- one byte of a class, or none
 abbrev pub maybe_at : (class : ℕ → Bool) (t : List ℕ) (a : ℕ) → (b : ℕ) × MaybeRead class t a b

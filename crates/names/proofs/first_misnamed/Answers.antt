@@ -7,11 +7,11 @@ use Rattle.names.proofs.first_misnamed.Goals as goal
 pub loop-name-init : goal.loop-name-init
 loop-name-init c = (omega arith, omega arith, λ ds x k. (gone_start x, right_start))
 
-pub returns-in-At : goal.returns-in-At
-returns-in-At c = record {
+pub returns-in-Some-first_wrong : goal.returns-in-Some-first_wrong
+returns-in-Some-first_wrong c = record {
   of = λ ds y size few listed. (let k = counted size few listed in
       let g = c.loop-name.invariant.2 ds y k in
-      right_found (gone_step g.0 c.in-Some.ensures) g.1 k c.in-At.ensures);
+      right_found (gone_step g.0 c.in-Some.ensures) g.1 k c.in-Some-first_wrong.ensures);
 }
 
 pub loop-name-preserved : goal.loop-name-preserved

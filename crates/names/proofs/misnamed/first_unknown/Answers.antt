@@ -1,11 +1,11 @@
 -- The first of the names from here on is the first of all, since those so far are declared. Assumes nothing.
 use Rattle.std.proofs.Common.{arith, add-one}
-use Rattle.table.specs.declared.Found.TheVariants.{At, Nothing}
+use Rattle.std.proofs.Common.{Some, None}
 use Rattle.names.proofs.Unknowns.{name_end_past, unknown_over, unknown_none, unknown_skip, unknown_hit, unknown_past}
 use Rattle.names.proofs.misnamed.first_unknown.Goals as goal
 
 pub returns-then-is : goal.returns-then-is
-returns-then-is c = c.loop-i.invariant Nothing (unknown_none c.if-is.ensures)
+returns-then-is c = c.loop-i.invariant None (unknown_none c.if-is.ensures)
 
 pub loop-i-smaller-then-number-count : goal.loop-i-smaller-then-number-count
 loop-i-smaller-then-number-count c = omega (arith, name_end_past c.if-is_of.ensures c.name_end-i.ensures)
@@ -16,11 +16,11 @@ loop-i-preserved-then-number-count c = λ r x.
     c.loop-i.invariant r y)
 
 pub returns-else-number-count : goal.returns-else-number-count
-returns-else-number-count c = c.loop-i.invariant (At c.loop-i.i) (unknown_hit c.if-is.ensures c.if-is_of.ensures c.number.ensures (omega arith))
+returns-else-number-count c = c.loop-i.invariant (Some c.loop-i.i) (unknown_hit c.if-is.ensures c.if-is_of.ensures c.number.ensures (omega arith))
 
 pub loop-i-preserved : goal.loop-i-preserved
 loop-i-preserved c = λ r x.
     (c.loop-i.invariant r (unknown_skip c.if-is.ensures c.if-is_of.ensures r (rw (add-one c.loop-i.i) at x)))
 
 pub returns : goal.returns
-returns c = c.loop-i.invariant Nothing (unknown_over (omega arith))
+returns c = c.loop-i.invariant None (unknown_over (omega arith))
