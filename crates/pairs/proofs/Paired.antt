@@ -16,6 +16,11 @@ use Rattle.table.specs.Steps.Found.{Tells}
 use Rattle.table.proofs.Lists.{le_or_lt}
 use Rattle.table.proofs.Answers.{answer_one, accepted_answer, lowest_one}
 use Rattle.policy.proofs.Bits.{none_shared}
+use Rattle.std.specs.Prelude.{Err}
+use Rattle.table.specs.Refusals.{number_of, place_of}
+use Rattle.pairs.specs.declared.check.PairFault.{PairFault}
+use Rattle.pairs.specs.declared.check.PairFault.TheVariants.{Length, Both, SpareBit}
+use Rattle.pairs.specs.Faults.{refusal_of, proposed_refusal, fault_number, fault_place}
 use Rattle.pairs.specs.Maps.{Maps, maps, bytes_for, Apart, Spare, Paired, Unpaired, length_off, both_set, spare_set, MapPolicy, NoMaps, table, pair}
 use Rattle.pairs.specs.Steps.Checking.{PairAnswer, unpaired, paired, MapsAnswer, refused, fits}
 
@@ -114,6 +119,20 @@ module _ {off both spare v : ℕ} {m : Maps} where
   pub pair_fits : {n p : ℕ} → off ≢ 0 → both ≢ 0 → spare ≢ 0 → n ≡ 0 → PairAnswer off both spare v m n p → Paired v m
   pair_fits f g h e (unpaired u) = absurd (unpaired_number f g h u e)
   pair_fits f g h e (paired w q z) = w
+
+-- what is wrong with a policy's own pair, and with a proposed one, by the refusal
+module _ {v : ℕ} {m : Maps} where
+  pub fault_refused : (f : PairFault) → PairAnswer 10 23 24 v m (fault_number {A = ℕ} 10 23 24 (Err f)) (fault_place {A = ℕ} (Err f))
+      → Unpaired 10 23 24 v m (number_of (refusal_of f)) (place_of (refusal_of f))
+  fault_refused Length a = pair_refused (omega arith) a
+  fault_refused (Both p) a = pair_refused (omega arith) a
+  fault_refused SpareBit a = pair_refused (omega arith) a
+
+  pub proposed_refused : (f : PairFault) → PairAnswer 13 14 14 v m (fault_number {A = ℕ} 13 14 14 (Err f)) (fault_place {A = ℕ} (Err f))
+      → Unpaired 13 14 14 v m (number_of (proposed_refusal f)) (place_of (proposed_refusal f))
+  proposed_refused Length a = pair_refused (omega arith) a
+  proposed_refused (Both p) a = pair_refused (omega arith) a
+  proposed_refused SpareBit a = pair_refused (omega arith) a
 
 module _ {ws : List ℕ} {m : Maps} where
   -- a policy is not refused

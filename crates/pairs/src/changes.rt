@@ -7,8 +7,6 @@ ghost use Rattle.proposing.specs.Proposals.{Kept, Changed};
 ghost use Rattle.pairs.specs.Maps.{maps, marks_of, Paired};
 ghost use Rattle.pairs.specs.Steps.Changing.{ChangedIn, OtherIn, OtherAt, Picked};
 
-use table::Found;
-
 // Which of eight privileges changed.
 fn changed(allowed: u8, forbidden: u8, proposed_allowed: u8, proposed_forbidden: u8) -> u8
     ensures { Picked (ChangedIn allowed forbidden proposed_allowed proposed_forbidden) result }
@@ -75,19 +73,19 @@ pub fn lowest_change(
     proposed_allowed: &[u8],
     proposed_forbidden: &[u8],
     v: usize,
-) -> Found
+) -> Option<usize>
     requires { Paired v (maps allowed.now forbidden.now) × Paired v (maps proposed_allowed.now proposed_forbidden.now) × (v ≤ 4096) }
     ensures { Lowest (Kept (marks_of v (maps allowed.now forbidden.now)) (marks_of v (maps proposed_allowed.now proposed_forbidden.now))) v result }
 {
     if all_kept(allowed, forbidden, proposed_allowed, proposed_forbidden) {
-        return Found::Nothing;
+        return None;
     }
     for p in 0..v {
         if is_other(allowed, forbidden, proposed_allowed, proposed_forbidden, p) {
-            return Found::At(p);
+            return Some(p);
         }
     }
-    Found::Nothing
+    None
 }
 
 // How many of v marks changed. Counted in 16 bits, eight bytes at a time.
