@@ -1,11 +1,5 @@
 -- Counting the roles of a month has one outcome: the sheet, and what the counts hold. Assumes nothing.
-use Prim.Native.Nat.{ℕ, ◌+◌, ◌-◌, ◌*◌, ◌/◌, ◌%◌, ◌≤◌, ◌<◌}
-use mathlib.Core.Path.{◌≡◌, sym, ◌∙◌}
-use mathlib.Core.Logic.{◌⊎◌, inl, inr}
-use mathlib.Core.List.{List}
-use native.Mathlib.Omega.{arith}
-use lib.ListN.{get_or}
-use lib.Seq.{ext_get_or, get_or-drop}
+use Rattle.std.proofs.Common.{ℕ, ◌+◌, ◌-◌, ◌*◌, ◌/◌, ◌%◌, ◌≤◌, ◌<◌, ◌≡◌, sym, ◌∙◌, ◌⊎◌, inl, inr, List, arith, get_or, ext_get_or, get_or-drop}
 use Rattle.table.specs.Privilege.{privileges}
 use Rattle.table.proofs.HowMany.{many_one}
 use Rattle.table.proofs.Lists.{le_or_lt}

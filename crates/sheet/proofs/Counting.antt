@@ -1,10 +1,6 @@
 -- The figures and the counts of so many roles, and of one more. Assumes nothing.
-use Prim.Native.Nat.{ℕ, ◌+◌, ◌-◌, ◌*◌, ◌<◌}
-use mathlib.Core.Path.{◌≡◌, sym, ◌∙◌}
-use mathlib.Core.Bool.{Bool, true, false, not, ◌||◌}
-use mathlib.Core.List.{List, []}
-use native.Mathlib.Omega.{arith}
-use lib.ListN.{get_or, take, drop, replicate, length-replicate, get_or-replicate}
+use Rattle.std.proofs.Common.{ℕ, ◌+◌, ◌-◌, ◌*◌, ◌<◌, ◌≡◌, sym, ◌∙◌, Bool, true, false, not, ◌||◌, List, [], arith, get_or, take, drop, replicate}
+use lib.ListN.{length-replicate, get_or-replicate}
 use Rattle.table.specs.HowMany.{HowMany, none}
 use Rattle.table.specs.Privilege.{privileges}
 use Rattle.table.specs.Steps.Found.{Tells}

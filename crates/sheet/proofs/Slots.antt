@@ -1,22 +1,8 @@
 -- The marks of one role, counted privilege by privilege. Assumes nothing.
-use Prim.Native.Nat.{ℕ, zero, suc, ◌+◌, ◌-◌, ◌*◌, ◌≤◌, ◌<◌}
-use mathlib.Core.Path.{◌≡◌, refl, sym, ap, ◌∙◌}
-use mathlib.Core.Logic.{◌≢◌, ◌⊎◌, inl, inr}
-use mathlib.Core.List.{List}
-use native.Mathlib.Omega.{arith}
-use native.Mathlib.Nat.{eq-or-lt_of_le}
-use lib.ListN.{length, get_or, set, length-set}
-use lib.Seq.{get_or-set_same, get_or-set_other}
+use Rattle.std.proofs.Common.{ℕ, zero, suc, ◌+◌, ◌-◌, ◌*◌, ◌≤◌, ◌<◌, ◌≡◌, refl, sym, ap, ◌∙◌, ◌≢◌, ◌⊎◌, inl, inr, List, arith, eq-or-lt_of_le, length, get_or, set, length-set, get_or-set_same, get_or-set_other}
 use Rattle.table.proofs.Test.{settle, is_equal}
 use Rattle.sheet.specs.Sheets.{mark_at}
 use Rattle.sheet.specs.Steps.Counting.{SlotOf, Adds, one, same, MarksCounted}
-
--- a set mark is counted at the place of its number less one
-pub slot_below : (mark : ℕ) → mark ≢ 0 → mark ≤ 2 → SlotOf mark (mark - 1)
-slot_below zero d h = absurd (d refl)
-slot_below (suc zero) d h = record { low = omega arith; is = refl }
-slot_below (suc (suc zero)) d h = record { low = omega arith; is = refl }
-slot_below (suc (suc (suc m))) d h = absurd (omega arith)
 
 -- each of the three numbers counts another mark
 mark_one : (j k : ℕ) → j < 3 → k < 3 → mark_at j ≡ mark_at k → j ≡ k

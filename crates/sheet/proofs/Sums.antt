@@ -1,11 +1,5 @@
 -- The figures sum up: each role is refused, or has one mark for each privilege and is clean or not. Assumes nothing.
-use Prim.Native.Nat.{ℕ, zero, suc, ◌+◌, ◌*◌, ◌≤◌, ◌<◌}
-use mathlib.Core.Path.{◌≡◌, refl}
-use mathlib.Core.Logic.{◌⊎◌, inl, inr}
-use mathlib.Core.List.{List}
-use native.Mathlib.Omega.{arith}
-use native.Mathlib.Nat.{add-zero}
-use lib.ListN.{length, get_or}
+use Rattle.std.proofs.Common.{ℕ, zero, suc, ◌+◌, ◌*◌, ◌≤◌, ◌<◌, ◌≡◌, refl, ◌⊎◌, inl, inr, List, arith, add-zero, length, get_or}
 use Rattle.table.specs.Privilege.{privileges}
 use Rattle.table.proofs.HowMany.{many_either, many_full, many_fewer, many_union}
 use Rattle.policy.specs.Marks.{Legal, Fit}

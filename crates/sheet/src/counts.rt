@@ -1,28 +1,14 @@
 // Three numbers for each privilege: how often it is allowed, forbidden and unset. Contracts cite specs/Steps/Counting.
-ghost use Rattle.std.specs.Prelude.{◌≡◌, ℕ, ◌+◌, ◌*◌, ◌≤◌, ◌<◌, length, get_or, replicate};
+ghost use Rattle.std.specs.Prelude.{◌≡◌, ℕ, ◌+◌, ◌*◌, ◌≤◌, ◌<◌, length, get_or};
 ghost use Rattle.policy.specs.Marks.{Legal};
 ghost use Rattle.sheet.specs.Steps.Counting.{Room, SlotOf, MarksCounted};
-
-// Makes all numbers 0.
-pub fn clear(counts: &mut [u32])
-    ensures { counts.new ≡ replicate (length counts.old) 0 }
-{
-    let mut a = 0;
-    while a < counts.len() {
-        counts[a] = 0;
-        a += 1;
-    }
-}
 
 // Which of a privilege's three numbers counts the mark.
 fn slot_of(mark: u8) -> usize
     requires { mark ≤ 2 }
     ensures { SlotOf mark result }
 {
-    if mark == 0 {
-        return 2;
-    }
-    mark as usize - 1
+    if mark == 0 { 2 } else { usize::from(mark) - 1 }
 }
 
 // Counts the marks of one role.
@@ -30,10 +16,7 @@ pub fn count_marks(marks: &[u8], counts: &mut [u32])
     requires { ((p : ℕ) → p < length marks.now → Legal marks.now p) × (length counts.old ≡ 3 * length marks.now) × ((p k : ℕ) → p < length marks.now → k < 3 → Room (get_or counts.old (3 * p + k) 0)) }
     ensures { MarksCounted marks.now counts.old counts.new }
 {
-    let mut p = 0;
-    while p < marks.len() {
-        let at = 3 * p + slot_of(marks[p]);
-        counts[at] += 1;
-        p += 1;
+    for (p, &mark) in marks.iter().enumerate() {
+        counts[3 * p + slot_of(mark)] += 1;
     }
 }

@@ -52,11 +52,10 @@ pub fn no_figures() -> Figures
 pub fn refused(number: usize, place: usize) -> Sheet
     ensures { result ≡ refusal number place }
 {
-    let none = no_figures();
     Sheet {
-        number: number,
-        place: place,
-        figures: none,
+        number,
+        place,
+        figures: no_figures(),
         leader_count: 0,
         leaders: [0usize; 3],
     }
@@ -66,12 +65,12 @@ pub fn refused(number: usize, place: usize) -> Sheet
 pub fn done_with(figures: Figures, leaders: Leaders) -> Sheet
     ensures { result ≡ with_leaders figures leaders }
 {
-    let at = leaders.at;
+    let Leaders { count, at } = leaders;
     Sheet {
         number: 0,
         place: 0,
-        figures: figures,
-        leader_count: leaders.count,
+        figures,
+        leader_count: count,
         leaders: at,
     }
 }

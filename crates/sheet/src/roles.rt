@@ -3,32 +3,18 @@ ghost use Rattle.std.specs.Prelude.{◌≡◌, ℕ, ◌+◌, ◌*◌, ◌<◌, l
 ghost use Rattle.table.specs.Check.{Accepted};
 ghost use Rattle.table.specs.Privilege.{privileges};
 ghost use Rattle.table.specs.Steps.Order.{BottomUp};
-ghost use Rattle.sheet.specs.Steps.Counting.{up, Room, FiguresRoom, unbroken, with_role, with_refused, RoleCounted, Counted};
+ghost use Rattle.sheet.specs.Steps.Counting.{Room, FiguresRoom, unbroken, with_role, with_refused, RoleCounted, Counted};
 
-use super::counts::{clear, count_marks};
+use super::counts::count_marks;
 use super::{Figures, no_figures};
 use broken::{Broken, broken_in};
 use policy::marks::none_above;
-
-// One more where it is so.
-fn more(count: u32, so: bool) -> u32
-    requires { Room count }
-    ensures { result ≡ up count so }
-{
-    if so { count + 1 } else { count }
-}
 
 // Is no condition broken?
 fn is_unbroken(broken: Broken) -> bool
     ensures { result ≡ unbroken broken }
 {
-    if broken.insert_delete {
-        return false;
-    }
-    if broken.chain {
-        return false;
-    }
-    !broken.cycle
+    !(broken.insert_delete || broken.chain || broken.cycle)
 }
 
 // The figures with a role that breaks these conditions.
@@ -37,11 +23,11 @@ fn with_role(figures: Figures, broken: Broken) -> Figures
     ensures { result ≡ with_role figures broken }
 {
     Figures {
-        clean: more(figures.clean, is_unbroken(broken)),
-        insert_delete: more(figures.insert_delete, broken.insert_delete),
-        chain: more(figures.chain, broken.chain),
-        cycle: more(figures.cycle, broken.cycle),
-        refused: figures.refused,
+        clean: figures.clean + u32::from(is_unbroken(broken)),
+        insert_delete: figures.insert_delete + u32::from(broken.insert_delete),
+        chain: figures.chain + u32::from(broken.chain),
+        cycle: figures.cycle + u32::from(broken.cycle),
+        ..figures
     }
 }
 
@@ -51,11 +37,8 @@ fn with_refused(figures: Figures) -> Figures
     ensures { result ≡ with_refused figures }
 {
     Figures {
-        clean: figures.clean,
-        insert_delete: figures.insert_delete,
-        chain: figures.chain,
-        cycle: figures.cycle,
         refused: figures.refused + 1,
+        ..figures
     }
 }
 
@@ -90,11 +73,9 @@ fn count_each(
     ensures { Counted words.now roles marks.now result counts.new }
 {
     let mut figures = no_figures();
-    let mut r = 0u32;
-    while r < roles {
+    for r in 0..roles {
         let a = r as usize * v;
         figures = count_role(words, &marks[a..a + v], order, counts, figures);
-        r += 1;
     }
     figures
 }
@@ -111,14 +92,11 @@ pub fn count_roles(
     requires { Accepted words.now × BottomUp words.now order.now × (v ≡ privileges words.now) × (length marks.now ≡ roles * v) × (length counts.old ≡ 3 * v) }
     ensures { Counted words.now roles marks.now result counts.new }
 {
-    clear(counts);
+    counts.fill(0);
     if v == 0 {
         return Figures {
             clean: roles,
-            insert_delete: 0,
-            chain: 0,
-            cycle: 0,
-            refused: 0,
+            ..no_figures()
         };
     }
     count_each(words, roles, marks, v, order, counts)

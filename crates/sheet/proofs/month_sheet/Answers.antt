@@ -1,10 +1,5 @@
 -- What is no table, not V marks for each role, or has no room is refused; else each role is counted. Assumes nothing.
-use Prim.Native.Nat.{◌-◌, ◌*◌, ◌≤◌}
-use mathlib.Core.Path.{◌≡◌, refl}
-use native.Mathlib.Nat.{sub-zero, mul-le-mul}
-use native.Mathlib.Omega.{arith}
-use lib.ListN.{length}
-use lib.Seq.{length-take-le}
+use Rattle.std.proofs.Common.{◌-◌, ◌*◌, ◌≤◌, ◌≡◌, refl, mul-le-mul, arith, length}
 use Rattle.table.specs.Privilege.{privileges}
 use Rattle.table.specs.Check.{Accepted}
 use Rattle.table.proofs.Facts.{facts}
@@ -13,9 +8,6 @@ use Rattle.policy.specs.Roles.{table, length_off, short}
 use Rattle.sheet.specs.Answers.{refused}
 use Rattle.sheet.proofs.Given.{month_given}
 use Rattle.sheet.proofs.month_sheet.Goals as goal
-
-pub check_ordered-table-requires : goal.check_ordered-table-requires
-check_ordered-table-requires c = refl
 
 pub returns-then-table-ne0 : goal.returns-then-table-ne0
 returns-then-table-ne0 c = refused (table c.if-table-ne0.true c.check_ordered-table.ensures.answer) c.refused.ensures refl
@@ -41,18 +33,6 @@ returns-then-counts-n c = let accepted : let ws = c.args.words.now in Accepted w
     let sized : let a = c.args in length a.marks.now ≡ a.roles * privileges a.words.now = rw accepted.1 at c.if-marks-roles.false in
     let t = accepted in
     refused (short t.0 sized (omega (arith, c.if-counts-n.true, t.1)) refl refl) c.refused-then-counts-n.ensures refl
-
-pub count_roles-figures-requires : goal.count_roles-figures-requires
-count_roles-figures-requires c = let accepted : let ws = c.args.words.now in Accepted ws × (c.check_ordered-table.result.place ≡ privileges ws) = table_accepted c.if-table-ne0.false c.check_ordered-table.ensures.answer in
-    let t = accepted in
-    let counts = c.args.counts.now in
-    let v = c.check_ordered-table.result.place in (
-      t.0,
-      c.check_ordered-table.ensures.up c.if-table-ne0.false,
-      t.1,
-      c.if-marks-roles.false,
-      rw sub-zero (length-take-le (3 * v) counts c.if-counts-n.false),
-    )
 
 pub returns : goal.returns
 returns c = let accepted : let ws = c.args.words.now in Accepted ws × (c.check_ordered-table.result.place ≡ privileges ws) = table_accepted c.if-table-ne0.false c.check_ordered-table.ensures.answer in

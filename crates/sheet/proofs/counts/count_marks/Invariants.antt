@@ -1,11 +1,6 @@
 -- The marks before the loop's place are counted, and no number from there on has changed. Assumes nothing.
-use Prim.Native.Nat.{◌-◌, ◌≤◌}
-use lib.ListN.{length}
 use Rattle.sheet.proofs.Slots.{CountedTo}
 use Rattle.sheet.proofs.counts.count_marks.Given as goal
 
 abbrev pub invariant-loop-p : goal.invariant-loop-p
-invariant-loop-p l = (l.p ≤ length l.marks) × CountedTo l.marks l.initial.counts l.p l.counts
-
-abbrev pub decreases-loop-p : goal.decreases-loop-p
-decreases-loop-p l = length l.marks - l.p
+invariant-loop-p l = CountedTo l.marks l.initial.counts l.p l.counts
