@@ -298,7 +298,7 @@ fn asked_of(words: &[u16], marks: &[u8], kept: &[u16], y: usize) -> Tally
     requires { Policy words.now marks.now × (y < types words.now) }
     ensures { AskedOf words.now marks.now kept.now y result }
 {
-    if kept.len() == 0 {
+    if kept.is_empty() {
         return forbidden_below(words, marks, y);
     }
     entry_at(kept, y)
@@ -367,7 +367,7 @@ fn flag_by(words: &[u16], marks: &[u8], order: &[u8; 256], kept: &[u16], flags: 
     requires { Policy words.now marks.now × BottomUp words.now order.now × Lent words.now kept.now × (length flags.old ≡ 256) }
     ensures { FlagsBy words.now marks.now kept.now flags.old flags.new }
 {
-    if kept.len() == 0 {
+    if kept.is_empty() {
         flag_spoilt(words, marks, order, flags);
         return;
     }

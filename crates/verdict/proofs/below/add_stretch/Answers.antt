@@ -1,12 +1,8 @@
 -- None, the first, or more. Assumes nothing.
-use native.Mathlib.Omega.{arith}
-use mathlib.Core.Path.{refl}
+use Rattle.std.proofs.Common.{arith, refl}
 use Rattle.table.proofs.HowMany.{many_most, none_many, some_many}
 use Rattle.verdict.specs.Steps.Tallies.{none, first, more}
 use Rattle.verdict.proofs.below.add_stretch.Goals as goal
-
-pub returns-then-flag-ne1 : goal.returns-then-flag-ne1
-returns-then-flag-ne1 c = none (λ q h. c.if-flag-ne1.true h.flagged) refl
 
 pub returns-then-more-eq0 : goal.returns-then-more-eq0
 returns-then-more-eq0 c = none (λ q h. none_many c.count_forbidden-more.ensures c.if-more-eq0.true q h.range.high h.range) refl

@@ -23,6 +23,3 @@ breach_of-requires c = let pol = c.requires.0 in
       read = λ d. spot_as _ pol.accepted (flags_agree (c.flag_by.ensures.read d)) c.in-Some.ensures;
     } in
     (pol, first_can _ _ c.in-Some.spot pol.accepted by, by)
-
-pub returns : goal.returns
-returns c = record { worked = λ e. verdict.broken (c.breach_of.ensures.worked e); read = λ d. kept.broken (c.breach_of.ensures.read d) }

@@ -1,29 +1,15 @@
 -- What breaks the first spot, and its chain, make the breach. Assumes nothing.
-use native.Mathlib.Omega.{arith}
-use Prim.Native.Nat.{◌<◌}
+use Rattle.std.proofs.Common.{arith, ◌<◌}
 use Rattle.table.specs.Words.{types}
 use Rattle.table.proofs.Facts.{accepted_childed}
 use Rattle.verdict.specs.Steps.Breakers.{Anything}
 use Rattle.verdict.proofs.Firsts.{breach_type}
-use Rattle.verdict.proofs.Readings.{child_in, read_broken, worked_broken}
+use Rattle.verdict.proofs.Readings.{read_broken, worked_broken}
 use Rattle.verdict.proofs.breaches.breach_of.Goals as goal
 
 pub first_privilege-requires : goal.first_privilege-requires
 first_privilege-requires c = let is_type : c.args.spot.element < types c.args.words.now = let b = c.requires.1 in breach_type c.args.words.now c.args.marks.now Anything c.args.spot b.0 b.1 in
     ((accepted_childed c.requires.0.accepted).tiled.laid, omega (arith, is_type))
-
-pub numbers_at-n-requires : goal.numbers_at-n-requires
-numbers_at-n-requires c = let is_type : c.args.spot.element < types c.args.words.now = let b = c.requires.1 in breach_type c.args.words.now c.args.marks.now Anything c.args.spot b.0 b.1 in
-    (c.requires.0.accepted, is_type, c.first_privilege.ensures.is)
-
-pub breaker_at-requires : goal.breaker_at-requires
-breaker_at-requires c = (c.requires.0, c.numbers_at-n.ensures, c.requires.1)
-
-pub tally_by-tally-requires : goal.tally_by-tally-requires
-tally_by-tally-requires c = (c.requires.0, child_in _ _ c.args.spot c.breaker_at.result c.breaker_at.ensures)
-
-pub breach_with-requires : goal.breach_with-requires
-breach_with-requires c = (c.requires.0, c.numbers_at-n.ensures, c.requires.1)
 
 pub returns : goal.returns
 returns c = record {

@@ -1,37 +1,17 @@
 -- By the condition of the spot. Assumes nothing.
-use native.Mathlib.Omega.{arith}
-use Prim.Native.Nat.{◌<◌}
-use mathlib.Core.Path.{◌∙◌}
+use Rattle.std.proofs.Common.{◌<◌, ◌∙◌}
 use Rattle.table.specs.Words.{types}
 use Rattle.table.proofs.Facts.{facts, has_children}
-use Rattle.table.proofs.Privileges.{numbered_small, replace_in_lem}
+use Rattle.table.proofs.Privileges.{replace_in_lem}
 use Rattle.policy.proofs.Reaches.{reached_from}
 use Rattle.verdict.specs.Steps.Breakers.{Anything, replacement, cycle}
 use Rattle.verdict.proofs.Firsts.{breach_type}
-use Rattle.verdict.proofs.Breakers.{BrokenAs, broken_as, breaker_star}
+use Rattle.verdict.proofs.Breakers.{BrokenAs, broken_as}
 use Rattle.verdict.proofs.breaches.breaker_at.Goals as goal
-
-pub star_breaker-requires : goal.star_breaker-requires
-star_breaker-requires c = let broken : BrokenAs c.args.words.now c.args.marks.now Anything c.args.spot c.requires.2.0 = broken_as _ _ Anything c.args.spot c.requires.2.0 c.requires.2.1 in
-    let h = broken _ c.in-InsertDelete.is in
-    (c.requires.0, c.requires.1, h.star)
-
-pub replacement-requires : goal.replacement-requires
-replacement-requires c = let broken : BrokenAs c.args.words.now c.args.marks.now Anything c.args.spot c.requires.2.0 = broken_as _ _ Anything c.args.spot c.requires.2.0 c.requires.2.1 in
-    let h = broken _ c.in-Chain.is in
-    let n = c.requires.1 in
-    record { small = numbered_small n; from = omega (arith, n.count, h.can.from); to = omega (arith, n.count, h.can.to) }
 
 pub child_at-requires : goal.child_at-requires
 child_at-requires c = let is_type : c.args.spot.element < types c.args.words.now = let b = c.requires.2 in breach_type c.args.words.now c.args.marks.now Anything c.args.spot b.0 b.1 in
     has_children c.requires.0.accepted is_type
-
-pub returns-in-None : goal.returns-in-None
-returns-in-None c = let broken : BrokenAs c.args.words.now c.args.marks.now Anything c.args.spot c.requires.2.0 = broken_as _ _ Anything c.args.spot c.requires.2.0 c.requires.2.1 in
-    absurd (broken _ c.in-None.is)
-
-pub returns-in-InsertDelete : goal.returns-in-InsertDelete
-returns-in-InsertDelete c = breaker_star _ _ c.in-InsertDelete.is c.star_breaker.ensures
 
 pub returns-in-Chain : goal.returns-in-Chain
 returns-in-Chain c = let spot = c.args.spot in

@@ -1,5 +1,5 @@
 -- No mark of the range is above 1, or one is forbidden. Assumes nothing.
-use mathlib.Core.Path.{refl}
+use Rattle.std.proofs.Common.{refl}
 use Rattle.table.proofs.Lowest.{told_yes, told_no}
 use Rattle.verdict.specs.Steps.Spoils.{up, down}
 use Rattle.verdict.proofs.Spoils.{range_none, range_some}
