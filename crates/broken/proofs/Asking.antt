@@ -5,6 +5,8 @@ use mathlib.Core.Path.{◌≡◌, refl, sym, ap, subst, subst⁻¹, ◌∙◌}
 use mathlib.Core.Logic.{◌≢◌, ◌⊎◌, inl, inr, ⊎_elim}
 use mathlib.Core.Bool.{Bool, true, false, ◌&&◌, ◌||◌, false≢true, and-eq-true_iff}
 use mathlib.Core.List.{List}
+use Rattle.std.proofs.Common.{Option, Some, is_some}
+use Rattle.std.proofs.Common as std
 use native.Mathlib.Nat.{eq-or-lt_of_le}
 use native.Mathlib.Omega.{arith}
 use lib.ListN.{length, get_or}
@@ -19,11 +21,11 @@ use Rattle.table.proofs.Facts.{facts}
 use Rattle.policy.proofs.Reaches.{reached_from}
 use Rattle.verdict.specs.Breaches.{condition_number, CycleBreach, BreachOf, key, FirstSpot}
 use Rattle.verdict.specs.Steps.Spoils.{Flagged, Agree}
-use Rattle.verdict.specs.Steps.Visits.{Visited, Searched, none, first, BreachAt, CycleAt}
+use Rattle.verdict.specs.Steps.Visits.{Visited, Searched, BreachAt, CycleAt}
 use Rattle.verdict.specs.declared.Spot.{Spot}
 use Rattle.verdict.specs.declared.Condition.{Condition}
-use Rattle.verdict.specs.declared.Condition.TheVariants.{None, InsertDelete, Chain, Cycle}
-use Rattle.verdict.proofs.Firsts.{breach_type, at_none, searched_first}
+use Rattle.verdict.specs.declared.Condition.TheVariants.{InsertDelete, Chain, Cycle}
+use Rattle.verdict.proofs.Firsts.{breach_type}
 use Rattle.verdict.proofs.Breached.{star_only, choice_only}
 use Rattle.verdict.proofs.Flagged.{breach_as}
 use Rattle.verdict.proofs.Spoiling.{breach_spoils}
@@ -120,15 +122,11 @@ module _ (ws marks : List ℕ) (B : ℕ → ℕ → Type 0) where
     cycle_at : (b : At Cycle) → CycleAt ws marks B x b.spot b.privilege
     cycle_at b = record { of_cycle = b.of; breach = subst (λ (c : Condition). BreachOf ws marks B c b.spot b.privilege) b.of b.breach; here = b.here }
 
-    pub cycle_none : {s : Spot} → Searched (CycleAt ws marks B x) s → s.condition ≡ None → ¬ At Cycle
-    cycle_none (none e n) k b = n b.spot b.privilege (cycle_at b)
-    cycle_none (first f) k b = omega (arith, ap condition_number (sym k ∙ f.broken.1.of_cycle))
-
-    pub cycle_some : {s : Spot} → Searched (CycleAt ws marks B x) s → s.condition ≢ None → At Cycle
-    cycle_some {s} f d =
-        let g = (searched_first f d).broken in
-        let p = g.0 in
-        let h = g.1 in
+    pub cycle_told : (found : Option Spot) → Searched (CycleAt ws marks B x) found → Tells (At Cycle) (is_some found)
+    cycle_told std.None n = λ b. n b.spot b.privilege (cycle_at b)
+    cycle_told (Some s) f =
+        let p = f.broken.0 in
+        let h = f.broken.1 in
         record { spot = s; privilege = p; of = h.of_cycle; breach = subst⁻¹ (λ (c : Condition). BreachOf ws marks B c s p) h.of_cycle h.breach; here = h.here }
 
     -- at a star condition 1 alone can be broken, at a choice the others
@@ -136,8 +134,8 @@ module _ (ws marks : List ℕ) (B : ℕ → ℕ → Type 0) where
       star_one : {c : Condition} → At c → c ≡ InsertDelete
       star_one b = sym b.of ∙ (star_only ws marks B x star b.spot b.privilege (breach_at b)).0
 
-      pub star_some : {s : Spot} → Searched (BreachAt ws marks B x) s → s.condition ≢ None → At InsertDelete
-      star_some {s} f d = let g = searched_first f d in broken_at g (star_only ws marks B x star s g.broken.0 g.broken.1).0
+      pub star_some : {s : Spot} → FirstSpot (BreachAt ws marks B x) s → At InsertDelete
+      star_some {s} f = broken_at f (star_only ws marks B x star s f.broken.0 f.broken.1).0
 
     module _ (choice : IsChoice ws x) where
       choice_not : (s : Spot) (p : ℕ) → BreachAt ws marks B x s p → s.condition ≢ InsertDelete
@@ -146,27 +144,21 @@ module _ (ws marks : List ℕ) (B : ℕ → ℕ → Type 0) where
         | inr g ↦ omega (arith, ap condition_number (sym e ∙ g.0))
       ]
 
-      module _ {s : Spot} (found : Searched (BreachAt ws marks B x) s) where
-        is_first : {c : Condition} → s.condition ≡ c → 0 < condition_number c → FirstSpot (BreachAt ws marks B x) s
-        is_first e l = searched_first found (λ d. omega (arith, ap condition_number (sym e ∙ d)))
-
+      module _ {s : Spot} (found : FirstSpot (BreachAt ws marks B x) s) where
         pub star_never : s.condition ≢ InsertDelete
-        star_never e = let g = (is_first e (omega arith)).broken in choice_not s g.0 g.1 e
+        star_never e = choice_not s found.broken.0 found.broken.1 e
 
         pub chain_some : s.condition ≡ Chain → At Chain
-        chain_some e = broken_at (is_first e (omega arith)) e
+        chain_some e = broken_at found e
 
         -- a chain would have come before a cycle
         pub cycle_only : s.condition ≡ Cycle → At Cycle × ¬ At Chain
-        cycle_only e = (broken_at cycle e, λ b. cycle.first b.spot b.privilege (breach_at b) (before b))
+        cycle_only e = (broken_at found e, λ b. found.first b.spot b.privilege (breach_at b) (before b))
           where
-            cycle : FirstSpot (BreachAt ws marks B x) s
-            cycle = is_first e (omega arith)
-
             before : (b : At Chain) → Lex (key b.spot) (key s)
             before b =
                 let l : condition_number b.spot.condition < condition_number s.condition = omega (arith, ap condition_number b.of, ap condition_number e) in
-                rw (b.here, cycle.broken.1.here) (same (less l))
+                rw (b.here, found.broken.1.here) (same (less l))
 
     -- what is broken at type x is added to what was known: nothing, or condition 1 at a star, or the others at a choice
     module _ (known : Broken) where
@@ -176,9 +168,6 @@ module _ (ws marks : List ℕ) (B : ℕ → ℕ → Type 0) where
         chain = flag_kept (At Chain) known.chain (λ b. n b.spot b.privilege (breach_at b));
         cycle = flag_kept (At Cycle) known.cycle (λ b. n b.spot b.privilege (breach_at b));
       }
-
-      pub added_unfound : {s : Spot} → Searched (BreachAt ws marks B x) s → s.condition ≡ None → Added At known known
-      added_unfound f e = added_none (λ t p h. at_none ws marks B f e t p h.breach h.here)
 
       pub star_added : IsStar ws x → {star : Bool} → Tells ((known.insert_delete ≡ true) ⊎ At InsertDelete) star
           → Added At known (record { insert_delete = star; chain = known.chain; cycle = known.cycle })

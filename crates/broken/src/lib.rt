@@ -22,7 +22,7 @@ use policy::reach::reached_by;
 use policy::rows::{allowed_rows, read_rows};
 use table::privilege::{Numbering, gap_of, numbers_at, privileges_in};
 use table::rule::{Rule, children, rule_at};
-use table::words::{types, word_at};
+use table::words::types;
 use verdict::Condition;
 use verdict::breaches::{breach_in, cycle_breach, star_breach};
 use verdict::spoilt::flag_spoilt;
@@ -51,15 +51,12 @@ fn add_star(
     if known.insert_delete {
         return known;
     }
-    let spot = star_breach(words, marks, flags, x, kids, n);
-    let condition = spot.condition;
-    if let Condition::None = condition {
-        return known;
-    }
-    Broken {
-        insert_delete: true,
-        chain: known.chain,
-        cycle: known.cycle,
+    match star_breach(words, marks, flags, x, kids, n) {
+        None => known,
+        Some(_) => Broken {
+            insert_delete: true,
+            ..known
+        },
     }
 }
 
@@ -75,12 +72,7 @@ fn has_cycle(
     requires { Visited words.now marks.now x kids.now × IsChoice words.now x × Square (count_of words.now x) (Reached words.now (Allowed marks.now) x) square.now }
     ensures { Tells (BreaksAt words.now marks.now (Flagged flags.now) (λ y. y ≡ x) Cycle) result }
 {
-    let spot = cycle_breach(words, marks, flags, x, kids, square);
-    let condition = spot.condition;
-    if let Condition::None = condition {
-        return false;
-    }
-    true
+    cycle_breach(words, marks, flags, x, kids, square).is_some()
 }
 
 // Is below no child something forbidden?
@@ -88,14 +80,7 @@ fn none_spoilt(flags: &[u8; 256], kids: &[u16]) -> bool
     requires { (i : ℕ) → i < length kids.now → get_or kids.now i 0 < 256 }
     ensures { Tells ((i : ℕ) → i < length kids.now → get_or flags.now (get_or kids.now i 0) 0 ≢ 1) result }
 {
-    let mut i = 0;
-    while i < kids.len() {
-        if flags[word_at(kids, i)] == 1 {
-            return false;
-        }
-        i += 1;
-    }
-    true
+    kids.iter().all(|kid| flags[usize::from(*kid)] != 1)
 }
 
 // Adds what is broken at the choice x, where a chain is known: a cycle is asked by itself, if none is known and a child is spoilt.
@@ -119,11 +104,7 @@ fn add_cycle(
     }
     let square = reached_by(words, marks, x, n, allowed_rows(marks, n));
     let cycle = has_cycle(words, marks, flags, x, kids, &square);
-    Broken {
-        insert_delete: known.insert_delete,
-        chain: known.chain,
-        cycle: cycle,
-    }
+    Broken { cycle, ..known }
 }
 
 // Adds what is broken at the choice x, whose squares tell what is reached and what is forbidden: the first breach there tells of a chain, and of a cycle
@@ -142,23 +123,22 @@ fn add_reached(
     requires { Visited words.now marks.now x kids.now × NumberedAs words.now x n × IsChoice words.now x × Square (count_of words.now x) (Reached words.now (Allowed marks.now) x) square.now × Square n.count (ForbiddenIn marks.now n) forbidden.now }
     ensures { Added (BreaksAt words.now marks.now (Flagged flags.now) (λ y. y ≡ x)) known result }
 {
-    let spot = breach_in(words, marks, flags, x, kids, n, square, forbidden);
-    let condition = spot.condition;
-    match condition {
-        Condition::None => known,
-        Condition::InsertDelete => known,
+    let Some(spot) = breach_in(words, marks, flags, x, kids, n, square, forbidden) else {
+        return known;
+    };
+    match spot.condition {
+        Condition::None | Condition::InsertDelete => known,
         Condition::Chain => {
             let cycle = has_cycle(words, marks, flags, x, kids, square);
             Broken {
-                insert_delete: known.insert_delete,
                 chain: true,
                 cycle: known.cycle | cycle,
+                ..known
             }
         }
         Condition::Cycle => Broken {
-            insert_delete: known.insert_delete,
-            chain: known.chain,
             cycle: true,
+            ..known
         },
     }
 }
@@ -198,12 +178,9 @@ fn add_type(
     requires { Policy words.now marks.now × (x < types words.now) × (first ≡ first_privilege words.now x) }
     ensures { Added (BreaksAt words.now marks.now (Flagged flags.now) (λ y. y ≡ x)) known result }
 {
-    let rule = rule_at(words, x);
-    match rule {
-        Rule::Empty => known,
-        Rule::Text => known,
-        Rule::Sequence { first: _, count: _ } => known,
-        Rule::Choice { first: _, count: _ } => {
+    match rule_at(words, x) {
+        Rule::Empty | Rule::Text | Rule::Sequence { .. } => known,
+        Rule::Choice { .. } => {
             add_choice(
                 words,
                 marks,
@@ -214,7 +191,7 @@ fn add_type(
                 known,
             )
         }
-        Rule::Star { first: _, count: _ } => {
+        Rule::Star { .. } => {
             add_star(
                 words,
                 marks,
@@ -259,14 +236,12 @@ fn broken_by(words: &[u16], marks: &[u8], flags: &[u8; 256]) -> Broken
         cycle: false,
     };
     let mut first = 0;
-    let mut x = 0;
-    while x < e {
+    for x in 0..e {
         if broken.insert_delete & broken.chain & broken.cycle {
             return broken;
         }
         broken = add_spoilt(words, marks, flags, x, first, broken);
         first += privileges_in(words, x, gap);
-        x += 1;
     }
     broken
 }

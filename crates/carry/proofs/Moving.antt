@@ -8,14 +8,13 @@ use lib.ListN.{length, get_or}
 use Rattle.table.specs.Words.{types}
 use Rattle.table.specs.Rule.{child_at, IsText, IsStar}
 use Rattle.table.specs.Privilege.{privileges, first_privilege, Edit, text, insert, delete, exchange, replace, type_of, Offers, privilege_of}
-use Rattle.table.specs.Named.{Named, texts, inserts, deletes, replaces, name_of}
-use Rattle.table.proofs.Named.{kind_of, type_in, named_type}
+use Rattle.table.specs.Named.{texts, inserts, deletes, name_of}
+use Rattle.table.proofs.Named.{kind_of, type_in}
 use Rattle.table.proofs.Privileges.{edit_belongs, edit_below}
 use Rattle.carry.specs.Numbers.{new_number}
 use Rattle.carry.specs.Carries.{mapped, Becomes, NewMark, kept, fresh, LostByte, lost, unset, housed, Carries}
 use Rattle.carry.specs.Steps.Scattering.{MarkMoved, moved, unmoved, ByteMoved, found, unfound, Scattered, Pair, set_byte}
-use Rattle.carry.specs.Steps.Moving.{Moving, MovingAt, OfType, TypesTo, BecomesBy, TextAt, text_at, EndsAt, insert_at, delete_at, ReplacesAt, exchange_at, replace_at}
-use Rattle.carry.specs.declared.carrying.Site.{Site}
+use Rattle.carry.specs.Steps.Moving.{Moving, OfType, TypesTo, BecomesBy, TextAt, text_at, EndsAt, insert_at, delete_at, ReplacesAt, exchange_at, replace_at}
 use Rattle.carry.proofs.Scattering.{Either, scattered_none, scattered_as, scattered_then, below_next}
 
 -- the edits that name the change of a text, an insert and a delete
@@ -163,18 +162,6 @@ room_for {old} {new = new} m e f o n = (
   omega (arith, edit_below new f n, m.out_size),
 )
 
--- the same with results of the same length
-pub moving_after : {old marks new numbers out lost m l : List ℕ} {s : Site} {R : ℕ → ℕ → Type 0} → MovingAt old marks new numbers out lost s
-    → Scattered R marks out lost m l → MovingAt old marks new numbers m l s
-moving_after w t = record {
-  moving = record { move = w.moving.move; out_size = t.out_size ∙ w.moving.out_size; lost_size = t.lost_size ∙ w.moving.lost_size };
-  type = w.type;
-  first_is = w.first_is;
-  y_is = w.y_is;
-  there = w.there;
-  onto_is = w.onto_is;
-}
-
 -- one set of old edits after another
 module _ (old new numbers : List ℕ) where
   as_asked : (X Y : Edit → Type 0) {p q : ℕ} (b : BecomesBy X old new numbers p q) → Y b.becomes.before → BecomesBy Y old new numbers p q
@@ -217,21 +204,6 @@ module _ (old new numbers : List ℕ) where
       (scattered_then (BecomesBy (TextAt x) old new numbers) (BecomesBy (EndsAt x) old new numbers) (BecomesBy (Plain x) old new numbers)
       (more (TextAt x) (EndsAt x) (Plain x) (λ e h. inl h) (λ e h. inr h) (λ e h. h)) a b)
       c
-
-  -- what becomes of an edit is at the new number of its type
-  becomes_type : {p q : ℕ} (s : Becomes old new numbers p q) → type_of s.after ≡ new_number numbers (type_of s.before)
-  becomes_type s = sym (named_type new s.after) ∙ ap type_in s.same ∙ mapped_type (name_of old s.before) ∙ ap (new_number numbers) (named_type old s.before)
-    where
-      mapped_type : (n : Named) → type_in (mapped (new_number numbers) n) ≡ new_number numbers (type_in n)
-      mapped_type (texts x) = refl
-      mapped_type (inserts x a) = refl
-      mapped_type (deletes x a) = refl
-      mapped_type (replaces x a b) = refl
-
-  pub type_gone : {marks out gone : List ℕ} (x : ℕ) → types new ≤ new_number numbers x → Scattered (BecomesBy (OfType x) old new numbers) marks out gone out gone
-  type_gone {marks} {out} {gone} x high = scattered_none (BecomesBy (OfType x) old new numbers) marks out gone (λ p q b.
-      let s = b.becomes in
-      omega (arith, (edit_belongs new s.after s.offers).type, becomes_type s, ap (new_number numbers) b.asked))
 
   pub types_start : (marks out gone : List ℕ) → Scattered (BecomesBy (TypesTo 0) old new numbers) marks out gone out gone
   types_start marks out gone = scattered_none (BecomesBy (TypesTo 0) old new numbers) marks out gone (λ p q b. omega (arith, b.asked))

@@ -2,7 +2,6 @@
 -- nothing.
 use Prim.Native.Nat.{ℕ, ◌≤◌, ◌<◌}
 use mathlib.Core.Path.{◌≡◌, refl, sym, ap, ◌∙◌}
-use mathlib.Core.Logic.{◌≢◌}
 use mathlib.Core.List.{List}
 use native.Mathlib.Omega.{arith}
 use lib.ListN.{length, get_or}
@@ -11,7 +10,7 @@ use Rattle.table.specs.Rule.{rule_at, kind_in, count_of, child_at, children_at, 
 use Rattle.table.specs.Privilege.{gap_of, privileges, exchange_of, Edit, text, insert, delete, exchange, replace, Offers, privilege_of}
 use Rattle.table.specs.Named.{replaces, name_of}
 use Rattle.table.specs.Check.{Accepted}
-use Rattle.table.specs.Steps.Numbering.{NumberedAs, Small, replace_in, ReplaceableIn}
+use Rattle.table.specs.Steps.Numbering.{Small, replace_in, ReplaceableIn}
 use Rattle.table.specs.declared.privilege.Numbering.{Numbering}
 use Rattle.table.proofs.Facts.{facts}
 use Rattle.table.proofs.Privileges.{gap_two, two_gap, edit_below, replaceable_in, in_replaceable, replace_in_lem}
@@ -23,11 +22,6 @@ use Rattle.carry.specs.Steps.Placing.{ReplacesAs, choice, star, none, Place, the
 use Rattle.carry.specs.Steps.Moving.{BecomesBy, ReplacesAt, exchange_at, replace_at}
 use Rattle.table.proofs.Named.{kind_of, type_in}
 use Rattle.carry.proofs.Scattering.{scattered_none}
-
--- a place is at most behind the last
-pub place_most : {kids : List ℕ} {n c r : ℕ} → Place kids n c r → r ≤ n
-place_most (there l e) = omega arith
-place_most (nowhere e f) = omega arith
 
 -- one that is not behind the last holds the type, and is the only one
 pub place_holds : {kids : List ℕ} {n c r : ℕ} → Place kids n c r → r < n → get_or kids r 0 ≡ c
@@ -42,17 +36,11 @@ module _ {ws : List ℕ} {x : ℕ} (a : Accepted ws) (l : x < types ws) where
   abbrev kind : ℕ
   kind = kind_in (rule_at ws x)
 
-  pub replaces_choice : {n : Numbering} → kind ≡ 3 → NumberedAs ws x n → ReplacesAs ws x n
-  replaces_choice e h = choice (record { type = l; kind_is = e }) h
-
   pub replaces_star : {first gap : ℕ} → kind ≡ 4 → first ≡ exchange_of ws x → gap ≡ gap_of ws → gap ≤ 1
       → ReplacesAs ws x (record { first = first; count = 1; gap = gap })
   replaces_star e f g few =
       let s : IsStar ws x = record { type = l; kind_is = e } in
       star s (record { low = omega (arith, star_low a s); few = omega arith; narrow = few }) f refl g
-
-  pub replaces_none : {first gap : ℕ} → kind ≢ 3 → kind ≢ 4 → first ≤ 4096 → gap ≤ 1 → ReplacesAs ws x (record { first = first; count = 0; gap = gap })
-  replaces_none d e low few = none (λ c. d c.kind_is) (λ s. e s.kind_is) (record { low = low; few = omega arith; narrow = few }) refl
 
 -- an edit that names a replacement is one, and the kinds that it names are two
 names_replacement : (ws : List ℕ) (e : Edit) {y a b : ℕ} → name_of ws e ≡ replaces y a b → ReplacesAt y e

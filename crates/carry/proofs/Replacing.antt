@@ -52,14 +52,8 @@ module _ {n : Numbering} {i : ℕ} {row : Row} (small : Small n) (r : RowAs n i 
   pub row_room : {l : List ℕ} → Room n l → RowRoom row l
   row_room room = record { small = r.small; room = λ j p s. let o = stands_replaced s in omega (arith, o.1, room.room i j o.0) }
 
--- where either row has none nothing is moved, else one pair
+-- where both rows have one, one pair is moved
 module _ {from to : Row} {marks out lost : List ℕ} where
-  pub old_missing : {j k : ℕ} → ((p : ℕ) → ¬ StandsAt from j p) → Scattered (BothStand from to j k) marks out lost out lost
-  old_missing {j} {k} d = scattered_none (BothStand from to j k) marks out lost (λ p q b. d p b.old)
-
-  pub new_missing : {j k : ℕ} → ((q : ℕ) → ¬ StandsAt to k q) → Scattered (BothStand from to j k) marks out lost out lost
-  new_missing {j} {k} d = scattered_none (BothStand from to j k) marks out lost (λ p q b. d q b.new)
-
   pub both_there : {m l : List ℕ} {j k p q : ℕ} → StandsAt from j p → StandsAt to k q → Scattered (Pair p q) marks out lost m l
       → Scattered (BothStand from to j k) marks out lost m l
   both_there {j = j} {k} {p} {q} old new = scattered_as (Pair p q) (BothStand from to j k)
@@ -73,9 +67,6 @@ pub record MovedTo (from to : Row) (at : List ℕ) (j p q : ℕ) : Type 0 where
   pub both : BothStand from to k (get_or at k 0) p q
 
 module _ (from to : Row) (at : List ℕ) where
-  pub moved_start : (marks out lost : List ℕ) → Scattered (MovedTo from to at 0) marks out lost out lost
-  moved_start marks out lost = scattered_none (MovedTo from to at 0) marks out lost (λ p q b. omega (arith, b.below))
-
   pub moved_more : {marks out lost m l n k : List ℕ} (j : ℕ) → Scattered (MovedTo from to at j) marks out lost m l
       → Scattered (BothStand from to j (get_or at j 0)) marks m l n k → Scattered (MovedTo from to at (j + 1)) marks out lost n k
   moved_more j = scattered_then (MovedTo from to at j) (BothStand from to j (get_or at j 0)) (MovedTo from to at (j + 1)) (record {
@@ -88,11 +79,6 @@ module _ (from to : Row) (at : List ℕ) where
   })
 
 module _ (from to : Numbering) (at : List ℕ) where
-  -- a child without a place has no replacement that has one
-  pub row_none : {marks out lost : List ℕ} (i : ℕ) → to.count ≤ get_or at i 0 → Scattered (Replaces from to at (InRow i)) marks out lost out lost
-  row_none {marks} {out} {lost} i high = scattered_none (Replaces from to at (InRow i)) marks out lost (λ p q r.
-      omega (arith, r.new.from, ap (λ (z : ℕ). get_or at z 0) r.within))
-
   -- the same replacements, asked for by other positions
   as_asked : (X Y : ℕ → ℕ → Type 0) {p q : ℕ} (r : Replaces from to at X p q) → Y r.i r.j → Replaces from to at Y p q
   as_asked X Y r y = record { i = r.i; j = r.j; within = y; old = r.old; old_is = r.old_is; new = r.new; new_is = r.new_is }

@@ -83,9 +83,6 @@ below_next a i l = elim (ℕ_discrete a i) [ yes e ↦ inr e | no d ↦ inl (ome
 
 -- pairs side by side, one after another
 module _ (a b : ℕ) where
-  pub pairs_start : (marks out lost : List ℕ) → Scattered (Pairs a b 0) marks out lost out lost
-  pairs_start marks out lost = scattered_none (Pairs a b 0) marks out lost (λ p q h. omega (arith, h.below))
-
   pub pairs_more : {marks out lost m l n k : List ℕ} (j : ℕ) → Scattered (Pairs a b j) marks out lost m l → Scattered (Pair (a + j) (b + j)) marks m l n k
       → Scattered (Pairs a b (j + 1)) marks out lost n k
   pairs_more j = scattered_then (Pairs a b j) (Pair (a + j) (b + j)) (Pairs a b (j + 1)) (record {

@@ -7,12 +7,12 @@ ghost use Rattle.carry.specs.Carries.{Carries};
 ghost use Rattle.carry.specs.Steps.Scattering.{Scattered};
 ghost use Rattle.carry.specs.Steps.Moving.{BecomesBy, TextAt, EndsAt, ReplacesAt, OfType, Moving, MovingAt};
 
-use super::kinds::{kind_at, replaces_at};
+use super::kinds::replaces_at;
 use super::places::places;
 use super::replaced::carry_rows;
-use super::scatter::{clear, lose_all, move_mark};
+use super::scatter::{lose_all, move_mark};
 use table::privilege::{first_privileges, privileges_at};
-use table::rule::{child_at, children};
+use table::rule::{Rule, child_at, children, rule_at};
 use table::words::{types, word_at};
 
 // An old type and the new one that it becomes, each with its first privilege.
@@ -37,12 +37,12 @@ fn carry_text(
     requires { MovingAt old.now marks.now new.now numbers.now out.old lost.old site }
     ensures { Scattered (BecomesBy (TextAt site.x) old.now new.now numbers.now) marks.now out.old lost.old out.new lost.new }
 {
-    if kind_at(old, site.x) != 1 {
+    let Rule::Text = rule_at(old, site.x) else {
         return;
-    }
-    if kind_at(new, site.y) != 1 {
+    };
+    let Rule::Text = rule_at(new, site.y) else {
         return;
-    }
+    };
     move_mark(marks, site.first, site.onto, out, lost);
 }
 
@@ -59,12 +59,12 @@ fn carry_ends(
     requires { MovingAt old.now marks.now new.now numbers.now out.old lost.old site }
     ensures { Scattered (BecomesBy (EndsAt site.x) old.now new.now numbers.now) marks.now out.old lost.old out.new lost.new }
 {
-    if kind_at(old, site.x) != 4 {
+    let Rule::Star { .. } = rule_at(old, site.x) else {
         return;
-    }
-    if kind_at(new, site.y) != 4 {
+    };
+    let Rule::Star { .. } = rule_at(new, site.y) else {
         return;
-    }
+    };
     if word_at(numbers, child_at(old, site.x, 0)) != child_at(new, site.y, 0) {
         return;
     }
@@ -140,14 +140,11 @@ pub(crate) fn carry_all(
 {
     let mut firsts = [0u16; 256];
     first_privileges(new, &mut firsts);
-    clear(out);
+    out.fill(0);
     lose_all(marks, lost);
-    let e = types(old);
     let mut first = 0;
-    let mut x = 0;
-    while x < e {
+    for x in 0..types(old) {
         carry_type(old, marks, new, numbers, &firsts, x, first, out, lost);
         first += privileges_at(old, x);
-        x += 1;
     }
 }

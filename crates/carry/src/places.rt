@@ -8,12 +8,10 @@ use table::words::word_at;
 fn place_of(kids: &[u16], n: usize, c: usize) -> usize
     ensures { Place kids.now n c result }
 {
-    let mut k = 0;
-    while k < n {
+    for k in 0..n {
         if word_at(kids, k) == c {
             return k;
         }
-        k += 1;
     }
     n
 }
@@ -22,10 +20,7 @@ fn place_of(kids: &[u16], n: usize, c: usize) -> usize
 fn place_near(kids: &[u16], n: usize, c: usize, near: usize) -> usize
     ensures { Place kids.now n c result }
 {
-    if n <= near {
-        return place_of(kids, n, c);
-    }
-    if word_at(kids, near) == c {
+    if near < n && word_at(kids, near) == c {
         return near;
     }
     place_of(kids, n, c)
@@ -37,11 +32,9 @@ pub(crate) fn places(kids: &[u16], n: usize, numbers: &[u16], others: &[u16], m:
     ensures { Places kids.now n numbers.now others.now m result }
 {
     let mut at = [0u16; 16];
-    let mut i = 0;
-    while i < n {
+    for i in 0..n {
         let y = word_at(numbers, word_at(kids, i));
         at[i] = place_near(others, m, y, i) as u16;
-        i += 1;
     }
     at
 }

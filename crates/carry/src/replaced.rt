@@ -6,7 +6,6 @@ ghost use Rattle.carry.specs.Steps.Scattering.{Scattered};
 ghost use Rattle.carry.specs.Steps.Placing.{Alike, replacements_in, RowAs, SmallRow, ReplacedBy, RowRoom, BothStand, InRow, RowsTo, Replaces};
 
 use super::scatter::{move_mark, move_marks};
-use table::Found;
 use table::privilege::{Numbering, missing, row_at, width};
 use table::words::word_at;
 
@@ -31,20 +30,17 @@ fn row_of(n: Numbering, i: usize) -> Row
 }
 
 // The privilege to replace the row's child by the kind at j, if there is one.
-fn replaced_by(row: Row, j: usize) -> Found
+fn replaced_by(row: Row, j: usize) -> Option<usize>
     requires { SmallRow row }
     ensures { ReplacedBy row j result }
 {
-    if row.count <= j {
-        return Found::Nothing;
+    if row.count <= j || j == row.gap {
+        return None;
     }
     if j < row.gap {
-        return Found::At(row.first + j);
+        return Some(row.first + j);
     }
-    if j == row.gap {
-        return Found::Nothing;
-    }
-    Found::At(row.first + (j - 1))
+    Some(row.first + (j - 1))
 }
 
 // Moves the mark of the replacement by the kind at j to that by the kind at k, where there are both.
@@ -60,12 +56,10 @@ fn carry_replacement(
     requires { RowRoom from marks.now × RowRoom from lost.old × RowRoom to out.old }
     ensures { Scattered (BothStand from to j k) marks.now out.old lost.old out.new lost.new }
 {
-    let old = replaced_by(from, j);
-    let Found::At(p) = old else {
+    let Some(p) = replaced_by(from, j) else {
         return;
     };
-    let new = replaced_by(to, k);
-    let Found::At(q) = new else {
+    let Some(q) = replaced_by(to, k) else {
         return;
     };
     move_mark(marks, p, q, out, lost);
@@ -90,11 +84,8 @@ fn carry_row(
     }
     let old = row_of(from, i);
     let new = row_of(to, place);
-    let count = from.count;
-    let mut j = 0;
-    while j < count {
+    for j in 0..from.count {
         carry_replacement(marks, old, new, j, word_at(at, j), out, lost);
-        j += 1;
     }
 }
 
@@ -102,19 +93,13 @@ fn carry_row(
 fn is_alike(from: Numbering, to: Numbering, at: &[u16; 16]) -> bool
     ensures { result ≡ true → Alike from to at.now }
 {
-    if from.count != to.count {
+    if from.count != to.count || from.gap != to.gap {
         return false;
     }
-    if from.gap != to.gap {
-        return false;
-    }
-    let count = from.count;
-    let mut i = 0;
-    while i < count {
+    for i in 0..from.count {
         if word_at(at, i) != i {
             return false;
         }
-        i += 1;
     }
     true
 }
@@ -146,10 +131,7 @@ pub(crate) fn carry_rows(
         move_marks(marks, from.first, to.first, replacements(from), out, lost);
         return;
     }
-    let count = from.count;
-    let mut i = 0;
-    while i < count {
+    for i in 0..from.count {
         carry_row(marks, from, to, at, i, out, lost);
-        i += 1;
     }
 }

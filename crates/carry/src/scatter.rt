@@ -2,17 +2,6 @@
 ghost use Rattle.std.specs.Prelude.{◌≡◌, ℕ, ◌+◌, ◌≤◌, ◌<◌, length, get_or};
 ghost use Rattle.carry.specs.Steps.Scattering.{Pair, Pairs, Scattered, set_byte};
 
-// Unsets all marks.
-pub(crate) fn clear(out: &mut [u8])
-    ensures { (length out.new ≡ length out.old) × ((q : ℕ) → q < length out.old → get_or out.new q 0 ≡ 0) }
-{
-    let mut q = 0;
-    while q < out.len() {
-        out[q] = 0;
-        q += 1;
-    }
-}
-
 // 1 if the mark is set, else 0.
 fn set_byte(mark: u8) -> u8
     ensures { result ≡ set_byte mark }
@@ -25,10 +14,8 @@ pub(crate) fn lose_all(marks: &[u8], lost: &mut [u8])
     requires { length lost.old ≡ length marks.now }
     ensures { (length lost.new ≡ length lost.old) × ((p : ℕ) → p < length lost.old → get_or lost.new p 0 ≡ set_byte (get_or marks.now p 0)) }
 {
-    let mut p = 0;
-    while p < lost.len() {
-        lost[p] = set_byte(marks[p]);
-        p += 1;
+    for (p, mark) in marks.iter().enumerate() {
+        lost[p] = set_byte(*mark);
     }
 }
 
@@ -53,9 +40,7 @@ pub(crate) fn move_marks(
     requires { 0 < size → (p + size ≤ length marks.now) × (p + size ≤ length lost.old) × (q + size ≤ length out.old) }
     ensures { Scattered (Pairs p q size) marks.now out.old lost.old out.new lost.new }
 {
-    let mut k = 0;
-    while k < size {
+    for k in 0..size {
         move_mark(marks, p + k, q + k, out, lost);
-        k += 1;
     }
 }

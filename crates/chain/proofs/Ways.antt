@@ -2,7 +2,7 @@
 use Prim.Native.Nat.{ℕ, suc, ◌+◌, ◌-◌, ◌≤◌, ◌<◌}
 use mathlib.Core.Path.{◌≡◌, refl, sym, ap, subst, ◌∙◌}
 use mathlib.Core.Logic.{inl, inr}
-use mathlib.Core.Bool.{true, false}
+use mathlib.Core.Bool.{false}
 use mathlib.Core.List.{List, [], ◌∷◌, ◌++◌}
 use native.Mathlib.Numerals.{add-one}
 use native.Mathlib.Omega.{arith}
@@ -146,9 +146,6 @@ module _ {R : ℕ → ℕ → Type 0} {n i j : ℕ} (sets : List ℕ) {word : �
   }
 
 module _ {R : ℕ → ℕ → Type 0} {n i j m : ℕ} {sets : List ℕ} {word : ℕ} (g : Grown R n i j m sets word) (l : i < n) where
-  pub grown_hit : bit word i ≡ true → Distances R n i j sets m
-  grown_hit e = record { some = g.some; most = g.most; leads = told_yes (bit word i) (g.level.tells i l) e; fewer = g.fewer; words = g.words }
-
   module _ (e : bit word i ≡ false) where
     none : (t : ℕ) → 1 ≤ t → t < m + 1 → ¬ Away R j t i
     none t a b = elim (le_or_lt m t) [

@@ -25,8 +25,10 @@ pub struct Chain {
 pub fn no_chain() -> Chain
     ensures { result ≡ chain_of [] }
 {
-    let at = [0u8; 17];
-    Chain { length: 0, at: at }
+    Chain {
+        length: 0,
+        at: [0; 17],
+    }
 }
 
 // The fewest steps of the rows from i to j; for each number of steps below it, a word of the positions from which so many lead to j.
@@ -38,6 +40,7 @@ fn fewest_steps(rows: &[u16; 16], n: usize, i: usize, j: usize, sets: &mut [u16;
     sets[0] = end;
     let mut word = leading_into(rows, n, end);
     let mut m = 1;
+    // A while: it ends because some number of steps leads from i to j.
     while !has(word, i) {
         sets[m] = word;
         word = leading_into(rows, n, word);
@@ -55,17 +58,12 @@ fn chain_of(rows: &[u16; 16], n: usize, i: usize, j: usize) -> Chain
     let m = fewest_steps(rows, n, i, j, &mut sets);
     let mut at = [0u8; 17];
     let mut p = i;
-    let mut k = 0;
-    while k < m {
+    for k in 0..m {
         at[k] = p as u8;
-        k += 1;
-        p = lowest_shared(rows[p], sets[m - k], n);
+        p = lowest_shared(rows[p], sets[m - (k + 1)], n);
     }
     at[m] = p as u8;
-    Chain {
-        length: m + 1,
-        at: at,
-    }
+    Chain { length: m + 1, at }
 }
 
 // The chain from i to j at the choice x of a policy.

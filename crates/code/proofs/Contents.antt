@@ -1,12 +1,6 @@
 -- Contents in code. Assumes nothing.
-use Prim.Native.Nat.{ℕ, suc, ◌≤◌, min}
+use Rattle.std.proofs.Common.{ℕ, suc, ◌≤◌, min, ◌≡◌, refl, sym, ◌∙◌, ◌≢◌, ◌⊎◌, inl, inr, true, false, List, [], ◌∷◌, ◌++◌, arith, length, length-append}
 use Prim.Native.Char.{code}
-use mathlib.Core.Path.{◌≡◌, refl, sym, ◌∙◌}
-use mathlib.Core.Logic.{◌≢◌, ◌⊎◌, inl, inr}
-use mathlib.Core.Bool.{Bool, true, false}
-use mathlib.Core.List.{List, [], ◌∷◌, ◌++◌}
-use native.Mathlib.Omega.{arith}
-use lib.ListN.{length, length-append}
 use Rattle.grammar.specs.Bytes.{Byte}
 use Rattle.grammar.specs.Tree.{Particle, Content, is_children, Declaration}
 use Rattle.grammar.specs.Grammar.{Children, as_choice, as_sequence, cp_group, Pcdata, Spec, spec_empty, spec_any, spec_text, spec_starred, spec_mixed, spec_children}
@@ -15,7 +9,7 @@ use Rattle.grammar.proofs.Unique.{row_no_space}
 use Rattle.grammar.proofs.OneTree.{row_no_number_sign}
 use Rattle.model.specs.Model.{Model, Operator, element, made, either, in_order, optional, repeated, positive, model_of}
 use Rattle.model.specs.Tables.{number_of}
-use Rattle.scan.specs.Steps.Readers.{Tells, BlanksRead}
+use Rattle.scan.specs.Steps.Readers.{BlanksRead}
 use Rattle.write.specs.Steps.Code.{word_of, code_of, code_of_each, code_of_operator, code_of_model, code_of_content}
 use Rattle.code.specs.Steps.Holding.{Holds, Emits, Inserts}
 use Rattle.code.specs.Steps.Putting.{Known, ParticlePut, TextRead, ShallowIn, ContentPut}
@@ -121,13 +115,3 @@ module _ {t list before mid : List ℕ} {count at size e n : ℕ} (x : ParticleP
             let g = code_long (number_of ds) o in
             holds_long l (196609 ∷ c) c (omega (arith, length-append l c)) (omega arith) (omega arith) (i.holds l c h.sized (u.holds l h)));
       }
-
-pub text_told : {t : List ℕ} {at b : ℕ} → Byte t at (code "(") → BlanksRead t (suc at) b → (r : Bool) → Tells (Byte t b (code "#")) r → TextRead t at r
-text_told {b = b} g s true x = (g, (b, s, x))
-text_told {b = b} g s false x = λ h. (b, s, x)
-
-pub text_so : {t : List ℕ} {at : ℕ} {r : Bool} → r ≡ true → TextRead t at r → TextRead t at true
-text_so e x = rw e at x
-
-pub no_text_so : {t : List ℕ} {at : ℕ} {r : Bool} → r ≡ false → TextRead t at r → TextRead t at false
-no_text_so e x = rw e at x

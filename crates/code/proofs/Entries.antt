@@ -1,10 +1,6 @@
 -- The code of declarations is no longer than they and the child entries of their table are together: each of its words is the content of a
 -- declaration, or a child entry of the type of its operator. Assumes nothing.
-use Prim.Native.Nat.{ℕ, suc, ◌+◌, ◌≤◌}
-use mathlib.Core.Path.{◌≡◌, refl, ap}
-use mathlib.Core.List.{List, [], ◌∷◌, ◌++◌}
-use native.Mathlib.Omega.{arith}
-use lib.ListN.{length, length-append}
+use Rattle.std.proofs.Common.{ℕ, suc, ◌+◌, ◌≤◌, ◌≡◌, refl, ap, List, [], ◌∷◌, ◌++◌, arith, length, length-append}
 use Rattle.grammar.specs.Tree.{Content, is-empty, is_text, is_any, is_mixed, is_children, Declaration}
 use Rattle.model.specs.Model.{Model, Models, Operator, element, made, either, in_order, optional, repeated, positive, single, then, model_of}
 use Rattle.model.specs.Tables.{Rule, size_of, kids_of, kids_of_all, children_of, rule_of, made_by, made_inside, made_by_each, rule_of_model, made_in_model}

@@ -1,11 +1,6 @@
 -- A mark behind a model, and its word before the model's code. Assumes nothing.
-use Prim.Native.Nat.{ℕ, suc, ◌≤◌}
+use Rattle.std.proofs.Common.{ℕ, suc, ◌≤◌, ◌≡◌, refl, sym, ◌∙◌, ap, subst, true, List, ◌∷◌, ◌++◌, arith, length}
 use Prim.Native.Char.{code}
-use mathlib.Core.Path.{◌≡◌, refl, sym, ◌∙◌, ap, subst}
-use mathlib.Core.Bool.{true}
-use mathlib.Core.List.{List, ◌∷◌, ◌++◌}
-use native.Mathlib.Omega.{arith}
-use lib.ListN.{length}
 use Rattle.grammar.specs.Bytes.{is_mark, Byte}
 use Rattle.grammar.specs.Tree.{Mark, maybe, any, several}
 use Rattle.grammar.specs.Grammar.{MarkAt, no_mark, question, asterisk, plus}

@@ -1,12 +1,7 @@
 -- Names, particles and rows in code, for every tree of the text. Assumes nothing.
-use Prim.Native.Nat.{ℕ, suc, ◌≤◌, min}
+use Rattle.std.proofs.Common.{ℕ, suc, ◌≤◌, min, ◌≡◌, refl, sym, ◌∙◌, inl, Bool, true, false, ◌||◌, cond, List, [], ◌∷◌, ◌++◌, append-nil, append_assoc, arith, length}
 use Prim.Native.Char.{code}
-use mathlib.Core.Path.{◌≡◌, refl, sym, ◌∙◌}
-use mathlib.Core.Logic.{inl}
-use mathlib.Core.Bool.{Bool, true, false, ◌||◌, cond}
-use mathlib.Core.List.{List, [], ◌∷◌, ◌++◌, append-nil, append_assoc}
-use native.Mathlib.Omega.{arith}
-use lib.ListN.{length, length-map}
+use lib.ListN.{length-map}
 use Rattle.grammar.specs.Bytes.{is_space, is_name_start, is_name_byte, Byte, Of, go_on}
 use Rattle.grammar.specs.Tree.{Mark, Particle, more, Declaration}
 use Rattle.grammar.specs.Grammar.{Blanks, Name, MarkAt, Cp, cp_name, cp_group, Children, as_choice, as_sequence}

@@ -1,15 +1,10 @@
 -- The declarations of a text in code, one after another. Assumes nothing.
-use Prim.Native.Nat.{ℕ, ◌≤◌, ◌<◌}
-use mathlib.Core.Path.{◌≡◌, refl, sym, ◌∙◌, ap}
-use mathlib.Core.List.{List, [], ◌∷◌, ◌++◌, append-nil, append_assoc}
-use native.Mathlib.Omega.{arith}
-use lib.ListN.{length}
+use Rattle.std.proofs.Common.{ℕ, ◌≡◌, refl, sym, ◌∙◌, ap, List, [], ◌∷◌, ◌++◌, append-nil, append_assoc, arith, Some, None}
 use Rattle.grammar.specs.Tree.{Declaration}
 use Rattle.grammar.specs.Grammar.{Items}
 use Rattle.model.specs.Tables.{number_of}
 use Rattle.names.specs.Steps.Walk.{DeclaredAt, NextOf, none_left, one_there, NextRead, BehindRead}
-use Rattle.names.specs.declared.walk.Next.{Next}
-use Rattle.names.specs.declared.walk.Next.TheVariants.{Declared, End}
+use Rattle.names.specs.declared.walk.Declared.{Declared}
 use Rattle.write.specs.Steps.Code.{code_of_content, code_of_all}
 use Rattle.code.specs.Steps.Holding.{Holds}
 use Rattle.code.specs.Steps.Putting.{Known, AllShallowIn, ContentPut}
@@ -30,45 +25,36 @@ code_more : (number : List ℕ → ℕ) (done : List Declaration) (d : Declarati
 code_more number [] d = append-nil (code_of_content number d.content)
 code_more number (e ∷ done) d = ap (λ (l : List ℕ). code_of_content number e.content ++ l) (code_more number done d) ∙ sym (append_assoc (code_of_content number e.content) (code_of_all number done) (code_of_content number d.content))
 
-next_is : {t : List ℕ} {a : ℕ} {r q : Next} → r ≡ q → NextRead t a r → NextRead t a q
-next_is e x = rw e at x
+data Ahead (t : List ℕ) (ds : List Declaration) (p : Declared) : Type 0 where
+  ahead : (d : Declaration) (es : List Declaration) → ds ≡ d ∷ es → DeclaredAt t d es p.name p.body → Ahead t ds p
 
-data Ahead (t : List ℕ) (ds : List Declaration) (name body : ℕ) : Type 0 where
-  ahead : (d : Declaration) (es : List Declaration) → ds ≡ d ∷ es → DeclaredAt t d es name body → Ahead t ds name body
-
-next_ahead : {t : List ℕ} {ds : List Declaration} {name body : ℕ} → NextOf t ds (Declared name body) → Ahead t ds name body
+next_ahead : {t : List ℕ} {ds : List Declaration} {p : Declared} → NextOf t ds (Some p) → Ahead t ds p
 next_ahead (one_there {d} {ds} x) = ahead d ds refl x
 
-next_none : {t : List ℕ} {ds : List Declaration} → NextOf t ds End → ds ≡ []
+next_none : {t : List ℕ} {ds : List Declaration} → NextOf t ds None → ds ≡ []
 next_none none_left = refl
 
-pub done_on : {t list buffer after : List ℕ} {count at size grown name body next : ℕ} {r : Next} {ds : List Declaration} → Known t list count ds → r ≡ Declared name body → NextRead t at r
-    → ContentPut t list count body buffer size after grown → BehindRead t body next → Done t list count at buffer size ds → Done t list count next after grown ds
-done_on {t} {list} {buffer} {after} {count} {at} {size} {grown} {name} {body} {next} {r} {ds} k e x y z p = go (next_ahead ((next_is e x).of p.rest p.ahead))
+pub done_on : {t list buffer after : List ℕ} {count at size grown next : ℕ} {d : Declared} {ds : List Declaration} → Known t list count ds → NextRead t at (Some d)
+    → ContentPut t list count d.body buffer size after grown → BehindRead t d.body next → Done t list count at buffer size ds → Done t list count next after grown ds
+done_on {t} {list} {buffer} {after} {count} {at} {size} {grown} {next} {d = places} {ds} k x y z p = go (next_ahead (x.of p.rest p.ahead))
   where
-    go : Ahead t p.rest name body → Done t list count next after grown ds
+    go : Ahead t p.rest places → Done t list count next after grown ds
     go (ahead d es q w) =
         let sh : AllShallowIn (d ∷ es) = rw q at p.shallow in
         record {
           done = p.done ++ (d ∷ []);
           rest = es;
           split = p.split ∙ ap (λ (l : List Declaration). p.done ++ l) q ∙ sym (append_assoc p.done (d ∷ []) es);
-          ahead = z.of d es name w;
+          ahead = z.of d es places.name w;
           shallow = sh.1;
           holds = rw (code_more (number_of ds) p.done d) ((y.of ds k d.content w.end w.spec w.after sh.0).holds (code_of_all (number_of ds) p.done) p.holds);
         }
 
-pub done_all : {t list buffer : List ℕ} {count at size : ℕ} {r : Next} {ds : List Declaration} → r ≡ End → NextRead t at r → Done t list count at buffer size ds → Holds buffer size (code_of_all (number_of ds) ds)
-done_all {buffer = buffer} {size = size} {ds = ds} e x p =
-    let n = next_none ((next_is e x).of p.rest p.ahead) in
+pub done_all : {t list buffer : List ℕ} {count at size : ℕ} {ds : List Declaration} → NextRead t at None → Done t list count at buffer size ds → Holds buffer size (code_of_all (number_of ds) ds)
+done_all {buffer = buffer} {size = size} {ds = ds} x p =
+    let n = next_none (x.of p.rest p.ahead) in
     let all : ds ≡ p.done = p.split ∙ ap (λ (l : List Declaration). p.done ++ l) n ∙ append-nil p.done in
     go p.done all p.holds
   where
     go : (es : List Declaration) → ds ≡ es → Holds buffer size (code_of_all (number_of ds) es) → Holds buffer size (code_of_all (number_of ds) ds)
     go es q h = rw (sym q) at h
-
-pub moved_on : {t : List ℕ} {at name body next : ℕ} {r : Next} → r ≡ Declared name body → NextRead t at r → BehindRead t body next → (at < next) × (body ≤ length t) × (next ≤ length t)
-moved_on e x z = let m = (next_is e x).moved in (omega (arith, m.0, z.from), m.1, z.inside m.1)
-
-pub body_in : {t : List ℕ} {at name body : ℕ} {r : Next} → r ≡ Declared name body → NextRead t at r → body ≤ length t
-body_in e x = (next_is e x).moved.1

@@ -18,10 +18,7 @@ const LONE: u32 = 196609;
 fn is_text(s: &[u8], at: usize) -> bool
     ensures { TextRead s.now at result }
 {
-    if is(s, at, b'(') {
-        return is(s, blanks(s, at + 1), b'#');
-    }
-    false
+    is(s, at, b'(') && is(s, blanks(s, at + 1), b'#')
 }
 
 // The words of a content.

@@ -7,9 +7,8 @@ ghost use Rattle.code.specs.Steps.Holding.{Inserts};
 ghost use Rattle.code.specs.Steps.Putting.{MarkPut, AllPut};
 
 use content::put_content;
-use names::walk::{Next, declaration_from, place_behind};
+use names::walk::{Declared, declaration_from, place_behind};
 use scan::bytes::is;
-use table::words::lesser;
 
 mod content;
 mod particle;
@@ -26,10 +25,8 @@ fn shift(code: &mut [u32; 1280], low: usize, high: usize)
     requires { (length code.old ≡ 1280) × (high < 1280) }
     ensures { Shifted 1 code.old code.new low high }
 {
-    let mut i = high;
-    while i > low {
-        i -= 1;
-        code[i + 1] = code[i];
+    if low < high {
+        code.copy_within(low..high, low + 1);
     }
 }
 
@@ -37,10 +34,7 @@ fn shift(code: &mut [u32; 1280], low: usize, high: usize)
 pub(crate) fn more(size: usize) -> usize
     ensures { result ≡ min (suc size) 1281 }
 {
-    if size < 1281 {
-        return size + 1;
-    }
-    1281
+    size.min(1280) + 1
 }
 
 // Puts a word between the words before a place and those behind it, and answers the new size; words that do not fit are dropped.
@@ -51,7 +45,7 @@ pub(crate) fn insert(code: &mut [u32; 1280], size: usize, at: usize, w: u32) -> 
     if at >= 1280 {
         return more(size);
     }
-    shift(code, at, lesser(size, 1279));
+    shift(code, at, size.min(1279));
     code[at] = w;
     more(size)
 }
@@ -92,7 +86,7 @@ pub(crate) fn put_mark(
             size: insert(code, size, start, SEVERAL),
         };
     }
-    Put { at: at, size: size }
+    Put { at, size }
 }
 
 // The code of a text's declarations, and its size.
@@ -102,13 +96,10 @@ pub fn put_all(s: &[u8], list: &[u16; 512], count: usize, code: &mut [u32; 1280]
 {
     let mut at = 0;
     let mut size = 0;
-    loop {
-        match declaration_from(s, at) {
-            Next::Declared(_, body) => {
-                size = put_content(s, body, list, count, code, size);
-                at = place_behind(s, at, body);
-            }
-            Next::End => return size,
-        }
+    // A while: declarations have any length.
+    while let Some(Declared { body, .. }) = declaration_from(s, at) {
+        size = put_content(s, body, list, count, code, size);
+        at = place_behind(s, at, body);
     }
+    size
 }

@@ -8,7 +8,6 @@ use names::list::number;
 use names::walk::name_end;
 use scan::bytes::is;
 use scan::piece::blanks;
-use table::words::lesser;
 
 // The words of a choice and of a sequence: their kinds, 4 and 3.
 const CHOICE: u32 = 262144;
@@ -34,7 +33,7 @@ fn put_name(
             size: more(size),
         };
     }
-    let n = lesser(number(s, list, count, at), 65535) as u32;
+    let n = number(s, list, count, at).min(65535) as u32;
     Put {
         at: e,
         size: insert(code, size, size, n),
@@ -57,7 +56,7 @@ pub(crate) fn put_particle(
 {
     if is(s, at, b'(') {
         if depth == 0 {
-            return Put { at: at, size: size };
+            return Put { at, size };
         }
         let g = put_group(s, blanks(s, at + 1), depth - 1, list, count, code, size);
         return put_mark(s, g.at, code, g.size, size);
@@ -123,15 +122,16 @@ fn put_rest(
     ensures { RestPut s.now list.now count depth at start separator kind code.old size code.new result.at result.size }
 {
     let mut i = at;
-    let mut n = 1;
+    let mut n: usize = 1;
     let mut end = size;
+    // A while: a particle and the white space behind it have any length.
     while is(s, i, separator) {
         let p = put_particle(s, blanks(s, i + 1), depth, list, count, code, end);
         i = blanks(s, p.at);
         n += 1;
         end = p.size;
     }
-    let w = kind + (lesser(n, 65535) as u32);
+    let w = kind + n.min(65535) as u32;
     Put {
         at: behind(s, i),
         size: insert(code, end, start, w),

@@ -1,14 +1,7 @@
 -- V of a table, its format and word 7. Assumes nothing.
-use Prim.Native.Nat.{ℕ, zero, suc, ◌+◌, ◌-◌, ◌*◌, ◌≤◌, ◌<◌}
-use mathlib.Core.Path.{◌≡◌, refl, sym, ◌∙◌, ap}
-use mathlib.Core.Logic.{◌≢◌, inl, inr}
+use Rattle.std.proofs.Common.{ℕ, zero, suc, ◌+◌, ◌-◌, ◌*◌, ◌≤◌, ◌<◌, ◌≡◌, refl, sym, ◌∙◌, ap, ◌≢◌, inl, inr, List, arith, mul-le-mul, add-one, length, get_or, set, length-set, get_or-set_other, set-set, Ok}
 use Rattle.grammar.proofs.Stopping.{le_or_lt}
-use mathlib.Core.List.{List}
-use native.Mathlib.Omega.{arith}
-use native.Mathlib.Nat.{mul-le-mul}
-use native.Mathlib.Numerals.{add-one}
-use lib.ListN.{length, get_or, set, length-set}
-use lib.Seq.{get_or-set_other, set-set, set-get_or}
+use lib.Seq.{set-get_or}
 use Rattle.table.specs.Sum.{sum_below}
 use Rattle.table.specs.Words.{format_of, types, entries, kind_at, count_at, first_at, running}
 use Rattle.table.specs.Rule.{rule_of, rule_at}
@@ -19,7 +12,6 @@ use Rattle.model.specs.Tables.{rules_of, kids_of_all, words_of, table_of}
 use Rattle.model.proofs.Shape.{table_length, stretch_passes, privileges_stated}
 use Rattle.write.specs.Steps.Code.{untotalled}
 use Rattle.dtd.specs.Steps.Last.{Small, Few, TotalRead}
-use Rattle.dtd.specs.declared.finish.Total.TheVariants.{Sum}
 
 choices_few : (n gap : ℕ) → n ≤ 16 → n * (n - gap) ≤ 16 * n
 choices_few n gap h =
@@ -115,7 +107,7 @@ blank_running format ds =
     ap (running (blank format ds)) (same_types t 0) ∙ sum_same (types t) (λ j h. same_count t 0 j) ∙ (stretch_passes format ds (types t) (omega arith)).total refl ∙ entries_are format ds
 
 -- V fits a word
-pub total_fits : (format : ℕ) (ds : List Declaration) → Small ds → (v : ℕ) → TotalRead (blank format ds) (Sum v) → v < 65536
+pub total_fits : (format : ℕ) (ds : List Declaration) → Small ds → (v : ℕ) → TotalRead (blank format ds) (Ok v) → v < 65536
 unfolding privileges first_privilege
 total_fits format ds s v x =
     let b = blank format ds in

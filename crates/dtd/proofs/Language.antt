@@ -1,10 +1,5 @@
 -- A table that was read has the language of its text. Assumes nothing.
-use Prim.Native.Nat.{ℕ, suc, ◌+◌, ◌≤◌}
-use mathlib.Core.Path.{◌≡◌, refl}
-use mathlib.Core.Logic.{inl, inr}
-use mathlib.Core.List.{List, ◌∷◌, ◌++◌}
-use native.Mathlib.Omega.{arith}
-use lib.ListN.{length, drop, take-append-drop}
+use Rattle.std.proofs.Common.{ℕ, suc, ◌+◌, ◌≤◌, ◌≡◌, refl, inl, inr, List, ◌∷◌, ◌++◌, arith, length, drop, take-append-drop}
 use Rattle.grammar.specs.Bytes.{ascii, Literal, done, byte}
 use Rattle.grammar.specs.Tree.{Content, Declaration, Nth, first, later}
 use Rattle.grammar.specs.Grammar.{Spec, spec_empty, spec_any, spec_text, spec_starred, spec_mixed, spec_children, element, Items, no_more, a_space, a_comment, a_declaration}

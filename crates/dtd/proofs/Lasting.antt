@@ -1,10 +1,5 @@
 -- From the answer for a table to the answer for its text's last part. Assumes nothing.
-use Prim.Native.Nat.{ℕ, ◌≤◌, ◌<◌}
-use mathlib.Core.Path.{◌≡◌, refl, ◌∙◌, subst}
-use mathlib.Core.Logic.{◌≢◌}
-use mathlib.Core.List.{List, ◌++◌}
-use native.Mathlib.Omega.{arith}
-use lib.ListN.{length, drop, set}
+use Rattle.std.proofs.Common.{ℕ, ◌≤◌, ◌<◌, ◌≡◌, refl, ◌∙◌, subst, ◌≢◌, List, arith, set, Ok, Err}
 use Rattle.table.specs.declared.check.Check.{Check}
 use Rattle.table.specs.declared.check.Check.TheVariants.{Format, Layout, Kind, Count, Stretch, Bounds, Twice, Cycle, Unreached, Total as Whole}
 use Rattle.table.specs.Check.{number_of, TableAnswer, refused, accepted}
@@ -12,9 +7,7 @@ use Rattle.grammar.specs.Tree.{Declaration}
 use Rattle.model.specs.Tables.{table_of}
 use Rattle.model.proofs.Counts.{wide_refused}
 use Rattle.dtd.specs.Answer.{KnownFormat}
-use Rattle.dtd.specs.Steps.Last.{Last, last_refused, last_short, last_done, Small, TotalRead}
-use Rattle.dtd.specs.declared.finish.Total.{Total}
-use Rattle.dtd.specs.declared.finish.Total.TheVariants.{Wide, Sum}
+use Rattle.dtd.specs.Steps.Last.{Last, last_refused, Small, TotalRead}
 use Rattle.dtd.proofs.Finishing.{blank, totalled, types_are, same_types, same_count}
 
 -- a check's number is neither 0 nor 12
@@ -35,25 +28,13 @@ module _ {ws out : List ℕ} {n p : ℕ} where
   table_refused (refused c e r) h = last_refused c e r refl
   table_refused (accepted e q a) h = absurd (omega arith)
 
-  pub out_short : TableAnswer ws n p → n ≤ 0 → length out < length ws → Last ws out 12 0 out
-  out_short (refused c e r) h l = absurd (omega (arith, (check_number c).0))
-  out_short (accepted e q a) h l = last_short refl refl a l refl
-
-  pub table_done : {after : List ℕ} → TableAnswer ws n p → n ≤ 0 → length ws ≤ length out → after ≡ ws ++ drop (length ws) out → Last ws out n p after
-  table_done (refused c e r) h l z = absurd (omega (arith, (check_number c).0))
-  table_done (accepted e q a) h l z = last_done e q a l z
-
 -- a table whose word 7 is still 0
 module _ (format : ℕ) (ds : List Declaration) {out : List ℕ} where
-  pub too_wide : {t : ℕ} → KnownFormat format → Small ds → TotalRead (blank format ds) (Wide t) → Last (table_of format ds) out 4 t out
+  pub too_wide : {t : ℕ} → KnownFormat format → Small ds → TotalRead (blank format ds) (Err (record { element = t })) → Last (table_of format ds) out 4 t out
   too_wide {t} known s x =
       let w = table_of format ds in
       last_refused Count refl (wide_refused format ds t known s.some s.types_few s.kids_few (omega (arith, x.0, same_types w 0, types_are format ds)) (omega (arith, x.1, same_count w 0 t)) (λ j h. omega (arith, x.2 j h, same_count w 0 j))) refl
 
-  pub with_total : {v n p : ℕ} {full after : List ℕ} → TotalRead (blank format ds) (Sum v) → full ≡ set (blank format ds) 7 v → Last full out n p after
+  pub with_total : {v n p : ℕ} {full after : List ℕ} → TotalRead (blank format ds) (Ok v) → full ≡ set (blank format ds) 7 v → Last full out n p after
       → Last (table_of format ds) out n p after
   with_total {v} {n} {p} {full} {after} x f y = subst (λ (l : List ℕ). Last l out n p after) (f ∙ totalled format ds v x.0) y
-
--- the words, and what was read of them
-pub total_is : {ws us : List ℕ} {r q : Total} → ws ≡ us → r ≡ q → TotalRead ws r → TotalRead us q
-total_is d e x = rw (d, e) at x

@@ -1,7 +1,6 @@
 -- Laws of the answer.
 pub mod OneAnswer
 pub mod Finishing
-pub mod Copying
 pub mod Lasting
 pub mod Passing
 pub mod Language

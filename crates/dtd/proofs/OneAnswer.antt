@@ -1,10 +1,5 @@
 -- The answer of reading a text admits one outcome only. Assumes nothing.
-use Prim.Native.Nat.{ℕ, ◌≤◌, ◌<◌}
-use mathlib.Core.Path.{◌≡◌, sym, ◌∙◌, ap, subst}
-use mathlib.Core.Logic.{◌≢◌, ◌⊎◌, inl, inr}
-use mathlib.Core.List.{List, ◌∷◌, ◌++◌}
-use native.Mathlib.Omega.{arith}
-use lib.ListN.{length, drop}
+use Rattle.std.proofs.Common.{ℕ, ◌≤◌, ◌<◌, ◌≡◌, sym, ◌∙◌, ap, subst, ◌≢◌, ◌⊎◌, inl, inr, List, ◌∷◌, ◌++◌, arith, length, drop}
 use Rattle.table.specs.Check as table
 use Rattle.table.specs.Check.{Refused, Accepted}
 use Rattle.table.specs.Privilege.{privileges}

@@ -1,18 +1,11 @@
 -- What each pass over a text of the grammar leaves, and what it refuses. Assumes nothing.
-use Prim.Native.Nat.{ℕ, zero, suc, ◌+◌, ◌*◌, ◌≤◌, ◌<◌}
-use mathlib.Core.Path.{◌≡◌, refl, sym, ◌∙◌, ap, subst}
-use mathlib.Core.Logic.{inl, inr}
-use mathlib.Core.List.{List}
-use native.Mathlib.Omega.{arith}
-use lib.ListN.{length, take, drop, length-take, take-append-drop}
-use lib.Seq.{ext_get_or, get_or-take}
+use Rattle.std.proofs.Common.{ℕ, zero, suc, ◌+◌, ◌*◌, ◌≤◌, ◌<◌, ◌≡◌, refl, sym, ◌∙◌, ap, subst, inl, inr, List, arith, length, take, drop, length-take, take-append-drop, ext_get_or, get_or-take}
 use Rattle.grammar.specs.Tree.{Particle, Particles, Content, Declaration, Nth, first, later}
 use Rattle.grammar.specs.Grammar.{Cp, cp_name, cp_group, Children, as_choice, as_sequence, Row, closed, separated, Spec, spec_empty, spec_any, spec_text, spec_starred, spec_mixed, spec_children}
 use Rattle.grammar.specs.Grammar.{element, Items, no_more, a_space, a_comment, a_declaration}
 use Rattle.grammar.specs.Stops.{Begins, Stops}
 use Rattle.table.specs.declared.Found.{Found}
 use Rattle.table.specs.declared.Found.TheVariants.{At, Nothing}
-use Rattle.scan.specs.declared.Step.{Step}
 use Rattle.grammar.specs.Limits.{DeepAt, DeepIn, deep_group, long_text}
 use Rattle.grammar.proofs.OneTree.{one_tree}
 use Rattle.grammar.proofs.Stopping.{le_or_lt, text_no_stop, over_within}
@@ -165,9 +158,6 @@ module _ {t list code-words : List ℕ} {count types kids : ℕ} (c : Encoded t 
     last_answer y (last_short e q a l z) = too_short e q (record { named = record { read = read_it; right = y }; accepted = a }) l z
     last_answer y (last_done e q a l z) = done e q (record { named = record { read = read_it; right = y }; accepted = a }) l z
 
-pub scanned_is : (t : List ℕ) {r q : Step} → r ≡ q → scanned.Scanned t r → scanned.Scanned t q
-scanned_is t e x = rw e at x
-
 pub first_is : (ds : List Declaration) {r q : Found} → r ≡ q → names.FirstMisnamed ds r → names.FirstMisnamed ds q
 first_is ds e x = rw e at x
 
@@ -179,6 +169,3 @@ module _ {words front : List ℕ} (n : ℕ) {ds : List Declaration} {code-words 
 
   pub front_is : front ≡ untotalled ds
   front_is = f ∙ ap (λ (k : ℕ). take k words) size_is ∙ x.table ds w.coded w.all w.counted (omega (arith, w.counted.types_are, w.small.types_few)) (omega (arith, w.counted.kids_are, w.small.kids_few))
-
-pub words_fit : {n types kids : ℕ} {words : List ℕ} {code-words : List ℕ} {declared : ℕ} → types ≤ 256 → kids ≤ 1024 → Written code-words words declared types kids → n ≡ 8 + 3 * types + kids → n ≤ length words
-words_fit a b x e = omega (arith, x.sized)

@@ -1,5 +1,5 @@
 // From the words of a table but for its V to the answer.
-ghost use Rattle.std.specs.Prelude.{◌+◌, ◌*◌, ◌≤◌, ◌≡◌, List, ◌++◌, length, drop};
+ghost use Rattle.std.specs.Prelude.{◌+◌, ◌*◌, ◌≤◌, ◌≡◌, List, length};
 ghost use Rattle.table.specs.Words.{types};
 ghost use Rattle.grammar.specs.Tree.{Declaration};
 ghost use Rattle.write.specs.Steps.Code.{untotalled};
@@ -11,43 +11,28 @@ use table::privilege::privileges_at;
 use table::words::{record_word, types};
 use table::{Checked, check_table};
 
-// V; or the lowest type with over 16 children.
+// The lowest type with over 16 children.
 #[derive(Clone, Copy)]
-enum Total {
-    Wide(usize),
-    Sum(usize),
+struct TooWide {
+    element: usize,
 }
 
-fn add_up(words: &[u16]) -> Total
+// V, if no type is too wide.
+fn add_up(words: &[u16]) -> Result<usize, TooWide>
     requires { 8 + 3 * types words.now ≤ length words.now }
     ensures { TotalRead words.now result }
 {
-    let e = types(words);
     let mut v = 0;
-    let mut t = 0;
-    while t < e {
+    for t in 0..types(words) {
         if record_word(words, t, 1) > 16 {
-            return Total::Wide(t);
+            return Err(TooWide { element: t });
         }
         v += privileges_at(words, t);
-        t += 1;
     }
-    Total::Sum(v)
+    Ok(v)
 }
 
-// Copies words to the front of a run.
-fn copy(words: &[u16], out: &mut [u16])
-    requires { length words.now ≤ length out.old }
-    ensures { out.new ≡ words.now ++ drop (length words.now) out.old }
-{
-    let mut i = 0;
-    while i < words.len() {
-        out[i] = words[i];
-        i += 1;
-    }
-}
-
-// The answer for a whole table.
+// The answer for a whole table, which is written to the front of out.
 fn answer(words: &[u16], out: &mut [u16]) -> Checked
     ensures { Last words.now out.old result.number result.place out.new }
 {
@@ -61,7 +46,7 @@ fn answer(words: &[u16], out: &mut [u16]) -> Checked
             place: 0,
         };
     }
-    copy(words, out);
+    out[..words.len()].copy_from_slice(words);
     r
 }
 
@@ -72,13 +57,13 @@ pub(crate) fn finish(words: &mut [u16], format: u16, out: &mut [u16]) -> Checked
 {
     words[0] = format;
     match add_up(words) {
-        Total::Wide(t) => Checked {
-            number: 4,
-            place: t,
-        },
-        Total::Sum(v) => {
+        Ok(v) => {
             words[7] = v as u16;
             answer(words, out)
         }
+        Err(TooWide { element }) => Checked {
+            number: 4,
+            place: element,
+        },
     }
 }

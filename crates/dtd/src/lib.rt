@@ -14,7 +14,7 @@ mod finish;
 use code::put_all;
 use finish::finish;
 use names::{collect, first_misnamed};
-use scan::{Step, scan};
+use scan::{Stop, scan};
 use table::{Checked, Found};
 use write::{Counts, count, write_rules};
 
@@ -115,12 +115,12 @@ pub fn read_format(text: &[u8], format: u16, out: &mut [u16]) -> Checked
     ensures { DtdAnswer text.now out.old format result.number result.place out.new }
 {
     match scan(text) {
-        Step::At(_) => read_text(text, format, out),
-        Step::Bad(k) => Checked {
+        Ok(_) => read_text(text, format, out),
+        Err(Stop::Bad(k)) => Checked {
             number: 20,
             place: k,
         },
-        Step::Over(k) => Checked {
+        Err(Stop::Over(k)) => Checked {
             number: 21,
             place: k,
         },

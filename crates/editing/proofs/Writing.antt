@@ -8,8 +8,7 @@ use native.Mathlib.Nat.{eq-or-lt_of_le}
 use native.Mathlib.Omega.{arith}
 use borrow.Author.Tests.{eqb-true}
 use lib.Dec.{eqb}
-use lib.ListN.{length, get_or, set, replicate, length-set, get_or-replicate}
-use lib.Seq.{get_or-set_same, get_or-set_other}
+use lib.ListN.{length, get_or, replicate, get_or-replicate}
 use Rattle.table.specs.Words.{types, root}
 use Rattle.table.specs.Rule.{children_at, Child}
 use Rattle.table.specs.Below.{Below, here, down}
@@ -49,21 +48,7 @@ all_below {ws} {marks} pol added = rw pol.fit.size at (tallied_added {P = Forbid
     tallied_start
     added)
 
--- the entry of a type is written
-pub entered_set : (t : ℕ) (r : Tally) (kept : List ℕ) → 2 * t + 1 < length kept → Entered t r kept (set (set kept (2 * t) r.lowest) (2 * t + 1) r.count)
-entered_set t r kept l = record {
-  size = length-set (set kept (2 * t) r.lowest) (2 * t + 1) r.count ∙ length-set kept (2 * t) r.lowest;
-  entry = rw (first, second);
-  others = λ k d e. get_or-set_other (set kept (2 * t) r.lowest) (2 * t + 1) k r.count 0 e ∙ get_or-set_other kept (2 * t) k r.lowest 0 d;
-}
-  where
-    first : get_or (set (set kept (2 * t) r.lowest) (2 * t + 1) r.count) (2 * t) 0 ≡ r.lowest
-    first = get_or-set_other (set kept (2 * t) r.lowest) (2 * t + 1) (2 * t) r.count 0 (omega arith) ∙ get_or-set_same kept (2 * t) r.lowest 0 (omega arith)
-
-    second : get_or (set (set kept (2 * t) r.lowest) (2 * t + 1) r.count) (2 * t + 1) 0 ≡ r.count
-    second = get_or-set_same (set kept (2 * t) r.lowest) (2 * t + 1) r.count 0 (omega (arith, length-set kept (2 * t) r.lowest))
-
--- and those of other types are as they were
+-- the entries of other types are as they were
 entered_other : {t : ℕ} {r : Tally} {kept after : List ℕ} → Entered t r kept after → (u : ℕ) → u ≢ t → entry_of after u ≡ entry_of kept u
 entered_other e u d = rw (e.others (2 * u) (omega arith) (omega arith), e.others (2 * u + 1) (omega arith) (omega arith))
 
@@ -155,19 +140,6 @@ written_more {ws} {marks} {order} {above} {from} {k} {after = after} bottom h m 
 
 written_start : {ws marks order above kept : List ℕ} {from : ℕ} → Written ws marks order above from from kept kept
 written_start = record { size = refl; done = λ k l i. absurd (omega arith); others = λ t l f. refl; rest = λ k l. refl }
-
--- the last place is reached, or the first was behind it
-pub written_end : {ws marks order above kept after : List ℕ} {from k last : ℕ} → Written ws marks order above from k kept after → (from < k → k ≤ last) → last ≤ k
-    → Written ws marks order above from last kept after
-written_end {from = from} {k = k} {last = last} w f l = elim (le_or_lt k from) [
-  | inl m ↦ record {
-    size = w.size;
-    done = λ j a b. absurd (omega arith);
-    others = λ t h g. w.others t h (λ j a b. absurd (omega arith));
-    rest = w.rest;
-  }
-  | inr m ↦ let q : k ≡ last = omega (arith, f m) in rw q at w
-]
 
 -- a pass that stands at k: the entries of the types passed are written, and what is listed is below the last of them
 pub record Writing (ws marks order above : List ℕ) (from last k : ℕ) (kept now flags list : List ℕ) (g : Grown) (y : ℕ) : Type 0 where

@@ -20,6 +20,7 @@ pub(crate) fn type_of(words: &[u16], p: usize) -> usize
     let gap = gap_of(words);
     let mut x = 0;
     let mut next = privileges_in(words, 0, gap);
+    // A while: p is below V, so the search ends at its type.
     while next <= p {
         x += 1;
         next += privileges_in(words, x, gap);
@@ -33,7 +34,8 @@ pub(crate) fn place_of(words: &[u16], order: &[u8; 256], x: usize) -> usize
     ensures { StandsAt words.now order.now x result }
 {
     let mut k = types(words) - 1;
-    while order[k] as usize != x {
+    // A while: each type stands in the order, so the search ends at x.
+    while usize::from(order[k]) != x {
         k -= 1;
     }
     k
@@ -44,12 +46,9 @@ pub(crate) fn flag_above(words: &[u16], order: &[u8; 256], place: usize, above: 
     requires { Accepted words.now × BottomUp words.now order.now × (place < types words.now) × (above.old ≡ replicate 256 0) }
     ensures { Aboves words.now (get_or order.now place 0) above.new }
 {
-    let e = types(words);
-    above[order[place] as usize] = 1;
-    let mut k = place + 1;
-    while k < e {
-        let t = order[k] as usize;
+    above[usize::from(order[place])] = 1;
+    for k in place + 1..types(words) {
+        let t = usize::from(order[k]);
         above[t] = flag_over(children(words, t), above, 0);
-        k += 1;
     }
 }

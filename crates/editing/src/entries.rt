@@ -37,10 +37,8 @@ fn is_blank(kept: &[u16], n: usize) -> bool
     ensures { Tells (Blank n kept.now) result }
 {
     let mut blank = true;
-    let mut k = 0;
-    while k < n {
-        blank = blank & (kept[k] == 0);
-        k += 1;
+    for word in &kept[0..n] {
+        blank &= *word == 0;
     }
     blank
 }
@@ -58,14 +56,7 @@ fn put_entry(kept: &mut [u16], t: usize, entry: Tally)
 fn has_child(kids: &[u16], y: usize) -> bool
     ensures { Tells (Among kids.now (length kids.now) y) result }
 {
-    let mut i = 0;
-    while i < kids.len() {
-        if word_at(kids, i) == y {
-            return true;
-        }
-        i += 1;
-    }
-    false
+    kids.iter().any(|kid| usize::from(*kid) == y)
 }
 
 // Writes the entries of the types above that stand from a place of the order up to the last, which is the root's. What is forbidden below a type is grown
@@ -87,9 +78,8 @@ fn write_entries(
     let mut list = [0u8; 256];
     let mut grown = nothing();
     let mut y = 0;
-    let mut k = place;
-    while k < last {
-        let t = order[k] as usize;
+    for k in place..last {
+        let t = usize::from(order[k]);
         if above[t] == 1 {
             if !has_child(children(words, t), y) {
                 flags = [0u8; 256];
@@ -99,7 +89,6 @@ fn write_entries(
             put_entry(kept, t, grown.tally);
             y = t;
         }
-        k += 1;
     }
 }
 
@@ -115,10 +104,8 @@ pub(crate) fn renew_entries(
     ensures { Renewed words.now marks.now p kept.old kept.new }
 {
     let all = all_forbidden(words, marks);
-    if all.count == 0 {
-        if is_blank(kept, 2 * types(words)) {
-            return;
-        }
+    if all.count == 0 && is_blank(kept, 2 * types(words)) {
+        return;
     }
     let place = place_of(words, order, type_of(words, p));
     let mut above = [0u8; 256];

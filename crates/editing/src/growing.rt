@@ -12,7 +12,6 @@ ghost use Rattle.editing.specs.Steps.Growing.{no_grown, Together, Reach, Within,
 use table::below::add_kids;
 use table::privilege::privileges_at;
 use table::rule::children;
-use table::words::lesser;
 use verdict::below::{Tally, add_stretch};
 
 // How many types are listed, and what is forbidden in them.
@@ -40,7 +39,7 @@ fn own_tally(words: &[u16], marks: &[u8], firsts: &[u16; 256], t: usize) -> Tall
     requires { Policy words.now marks.now × Firsts words.now (replicate 256 0) firsts.now × (t < types words.now) }
     ensures { Tallied (ForbiddenOwn words.now marks.now t) (privileges words.now) result.lowest result.count }
 {
-    let from = firsts[t] as usize;
+    let from = usize::from(firsts[t]);
     let none = Tally {
         lowest: 0,
         count: 0,
@@ -60,7 +59,7 @@ fn together(a: Tally, b: Tally) -> Tally
         return a;
     }
     Tally {
-        lowest: lesser(a.lowest, b.lowest),
+        lowest: a.lowest.min(b.lowest),
         count: a.count + b.count,
     }
 }
@@ -82,14 +81,12 @@ pub(crate) fn grow(
     let mut tally = before.tally;
     let mut head = before.listed;
     let mut n = add_kids(&one, flags, list, head);
+    // A while: the list grows on the way.
     while head < n {
-        let t = list[head] as usize;
+        let t = usize::from(list[head]);
         tally = together(tally, own_tally(words, marks, firsts, t));
         n = add_kids(children(words, t), flags, list, n);
         head += 1;
     }
-    Grown {
-        listed: n,
-        tally: tally,
-    }
+    Grown { listed: n, tally }
 }

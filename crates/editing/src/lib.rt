@@ -3,6 +3,8 @@
 #![tactic(auto)]
 
 ghost use Rattle.std.specs.Prelude.{◌≡◌, length};
+ghost use Rattle.table.specs.Refusals.{number_in, no_place_in};
+ghost use Rattle.verdict.specs.Results.{judged_answer};
 ghost use Rattle.editing.specs.Answer.{EditAnswer};
 ghost use Rattle.editing.specs.Steps.Checking.{OrderedEdit};
 
@@ -12,13 +14,13 @@ mod growing;
 
 use entries::renew_entries;
 use policy::marks::check_policy;
-use table::Checked;
+use table::Refusal;
 use table::words::types;
+use verdict::Breach;
 use verdict::breaches::breach_by;
-use verdict::{Answer, refused};
 
-// Checks a table, marks and an edit of one, for which there are n words of entries: 0, or the first of 1 to 12 and 19 with its place. With 0 the order
-// holds the types, each after its children.
+// Checks a table, marks and an edit of one, for which there are n words of entries: the first of 1 to 12 and 19 with its place, or nothing is wrong. Then the
+// order holds the types, each after its children.
 fn check_edit(
     words: &[u16],
     marks: &[u8],
@@ -26,61 +28,37 @@ fn check_edit(
     privilege: usize,
     mark: u8,
     order: &mut [u8; 256],
-) -> Checked
+) -> Result<(), Refusal>
     requires { length order.old ≡ 256 }
-    ensures { OrderedEdit words.now marks.now n privilege mark order.new result.number result.place }
+    ensures { OrderedEdit words.now marks.now n privilege mark order.new (number_in result) (no_place_in result) }
 {
-    let policy = check_policy(words, marks, order);
-    if policy.number != 0 {
-        return policy;
-    }
-    if policy.place <= privilege {
-        return Checked {
-            number: 10,
-            place: 0,
-        };
+    let v = check_policy(words, marks, order)?;
+    if v <= privilege {
+        return Err(Refusal::NoPrivilege);
     }
     if 2 < mark {
-        return Checked {
-            number: 11,
-            place: privilege,
-        };
+        return Err(Refusal::Mark(privilege));
     }
     if n < 2 * types(words) {
-        return Checked {
-            number: 12,
-            place: 0,
-        };
+        return Err(Refusal::ResultLength);
     }
-    Checked {
-        number: 0,
-        place: 0,
-    }
+    Ok(())
 }
 
-// Gives one privilege its mark and renews the entries of the types that it is below, whatever they hold: refuses with 1 to 12 or 19, or answers 0 with the
-// first breach by the entries, none where there is none.
+// Gives one privilege its mark and renews the entries of the types that it is below, whatever they hold: refuses with 1 to 12 or 19, or answers the first
+// breach by the entries, none where there is none.
 pub fn edit_mark(
     words: &[u16],
     marks: &mut [u8],
     kept: &mut [u16],
     privilege: usize,
     mark: u8,
-) -> Answer
-    ensures { EditAnswer words.now marks.old kept.old privilege mark result marks.new kept.new }
+) -> Result<Breach, Refusal>
+    ensures { EditAnswer words.now marks.old kept.old privilege mark (judged_answer result) marks.new kept.new }
 {
     let mut order = [0u8; 256];
-    let checked = check_edit(words, marks, kept.len(), privilege, mark, &mut order);
-    if checked.number != 0 {
-        return refused(checked.number, checked.place);
-    }
+    check_edit(words, marks, kept.len(), privilege, mark, &mut order)?;
     marks[privilege] = mark;
     renew_entries(words, marks, &order, privilege, kept);
-    let first = breach_by(words, marks, &order, kept);
-    Answer {
-        number: 0,
-        place: 0,
-        count: 0,
-        breach: first,
-    }
+    Ok(breach_by(words, marks, &order, kept))
 }

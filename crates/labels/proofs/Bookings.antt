@@ -1,12 +1,6 @@
 -- A label that is entered stands behind those before it, and leaves them as they are. Assumes nothing.
-use Prim.Native.Nat.{ℕ, suc, ◌+◌, ◌≤◌, ◌<◌}
-use mathlib.Core.Path.{◌≡◌, refl, sym, ap, ◌∙◌}
-use mathlib.Core.Logic.{◌⊎◌, inl, inr}
-use mathlib.Core.List.{List, ◌++◌}
-use native.Mathlib.Omega.{arith}
-use lib.ListN.{length, get_or, set, take, drop, length-set}
-use lib.Seq.{slice, paste, take-append-le, take-take, take-paste, take-length, drop_at, length-take-le, length_paste_head}
-use lib.Seq.{get_or-set_same, get_or-set_other}
+use Rattle.std.proofs.Common.{ℕ, suc, ◌+◌, ◌≤◌, ◌<◌, ◌≡◌, refl, sym, ap, ◌∙◌, ◌⊎◌, inl, inr, List, ◌++◌, arith, length, get_or, set, take, drop, length-set, take-take, drop_at, length-take-le, get_or-set_same, get_or-set_other}
+use Rattle.std.proofs.Math.Seq.{slice, paste, take-append-le, take-paste, take-length, length_paste_head}
 use Rattle.table.proofs.Lists.{le_or_lt}
 use Rattle.runs.specs.Putting.{Fits}
 use Rattle.labels.specs.Steps.Booked.{label_in}

@@ -1,15 +1,9 @@
 -- The labels of a text's types: a declared type's is a name of the grammar, a made type's is `#` and its number, and no two are the same. Assumes
 -- nothing.
-use Prim.Native.Nat.{ℕ, zero, suc, ◌≤◌, ◌<◌}
+use Rattle.std.proofs.Common.{ℕ, zero, suc, ◌≤◌, ◌<◌, ◌≡◌, refl, sym, ap, ◌∙◌, ◌≢◌, ◌⊎◌, inl, inr, Bool, true, false, List, [], ◌∷◌, arith, length, get_or, drop, lt-ltb, le-ltb}
 use Prim.Native.Char.{code}
-use mathlib.Core.Path.{◌≡◌, refl, sym, ap, ◌∙◌}
-use mathlib.Core.Logic.{◌≢◌, ◌⊎◌, inl, inr}
-use mathlib.Core.Bool.{Bool, true, false}
-use mathlib.Core.List.{List, [], ◌∷◌}
-use native.Mathlib.Omega.{arith}
-use lib.ListN.{length, get_or, drop, length-map}
-use lib.Seq.{slice, slice_empty, slice-cons}
-use borrow.Author.Tests.{lt-ltb, le-ltb}
+use Rattle.std.proofs.Math.ListN.{length-map}
+use Rattle.std.proofs.Math.Seq.{slice, slice_empty, slice-cons}
 use Rattle.table.proofs.Lists.{le_or_lt}
 use Rattle.grammar.specs.Bytes.{is_name_start, is_name_byte, Span, stop, go_on}
 use Rattle.grammar.specs.Tree.{Declaration, Nth, first, later}

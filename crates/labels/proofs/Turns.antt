@@ -1,11 +1,7 @@
 -- One turn of each loop over the types: the next declared name is entered, or the next made label. Assumes nothing.
-use Prim.Native.Nat.{ℕ, suc, ◌/◌, ◌%◌, ◌≤◌, ◌<◌}
+use Rattle.std.proofs.Common.{ℕ, suc, ◌/◌, ◌%◌, ◌≤◌, ◌<◌, ◌≡◌, ap, sym, ◌∙◌, List, [], ◌∷◌, arith, length}
 use Prim.Native.Char.{code}
-use mathlib.Core.Path.{◌≡◌, ap, sym, ◌∙◌}
-use mathlib.Core.List.{List, [], ◌∷◌}
-use native.Mathlib.Omega.{arith}
-use lib.ListN.{length}
-use lib.Seq.{slice}
+use Rattle.std.proofs.Math.Seq.{slice}
 use Rattle.grammar.specs.Tree.{Declaration}
 use Rattle.model.specs.Tables.{names_of}
 use Rattle.names.specs.Steps.Walk.{NameAt}

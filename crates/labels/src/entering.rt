@@ -4,7 +4,7 @@ ghost use Rattle.std.specs.Prelude.{◌≡◌, ◌%◌, ◌<◌, length};
 ghost use Rattle.labels.specs.Labels.{digit};
 ghost use Rattle.labels.specs.Steps.Entered.{made_label, Entered, DeclaredRead};
 
-use names::walk::{Next, declaration_from, name_end, place_behind};
+use names::walk::{Declared, declaration_from, name_end, place_behind};
 use runs::{part, put};
 use table::words::word_at;
 
@@ -60,14 +60,11 @@ pub(crate) fn enter_declared(s: &[u8], names: &mut [u8; 8192], starts: &mut [u16
     starts[0] = 0;
     let mut at = 0;
     let mut count = 0;
-    loop {
-        match declaration_from(s, at) {
-            Next::Declared(name, body) => {
-                enter(part(s, name, name_end(s, name)), names, starts, count);
-                at = place_behind(s, at, body);
-                count += 1;
-            }
-            Next::End => return count,
-        }
+    // A while: declarations have any length.
+    while let Some(Declared { name, body }) = declaration_from(s, at) {
+        enter(part(s, name, name_end(s, name)), names, starts, count);
+        at = place_behind(s, at, body);
+        count += 1;
     }
+    count
 }

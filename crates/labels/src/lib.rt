@@ -9,7 +9,7 @@ mod entering;
 
 use entering::{enter_declared, enter_made};
 use runs::part;
-use table::words::{lesser, word_at};
+use table::words::word_at;
 
 // The label of type x.
 pub fn label<'a>(names: &'a [u8], starts: &[u16], x: usize) -> &'a [u8]
@@ -24,10 +24,9 @@ pub fn put_labels(s: &[u8], e: usize, names: &mut [u8; 8192], starts: &mut [u16;
     requires { (length names.old ≡ 8192) × (length starts.old ≡ 257) }
     ensures { LabelsRead s.now e names.new starts.new }
 {
-    let last = lesser(e, 256);
-    let mut x = enter_declared(s, names, starts);
-    while x < last {
+    let last = e.min(256);
+    let made = enter_declared(s, names, starts);
+    for x in made..last {
         enter_made(names, starts, x);
-        x += 1;
     }
 }

@@ -2,7 +2,7 @@
 // and specs/Steps/Entering for the parts.
 #![tactic(auto)]
 
-ghost use Rattle.std.specs.Prelude.{◌≡◌, ◌+◌, ◌/◌, ◌≤◌, ◌<◌, min, length};
+ghost use Rattle.std.specs.Prelude.{◌≡◌, ◌+◌, ◌/◌, ◌≤◌, ◌<◌, length};
 ghost use Rattle.table.specs.Steps.Found.{Tells};
 ghost use Rattle.leaders.specs.Leaders.{LeadersOf, often_of};
 ghost use Rattle.leaders.specs.Steps.Entering.{LeadersBelow, Behind, Bar};
@@ -12,13 +12,6 @@ ghost use Rattle.leaders.specs.Steps.Entering.{LeadersBelow, Behind, Bar};
 pub struct Leaders {
     pub count: u32,
     pub at: [usize; 3],
-}
-
-// The same number, in 64 bits.
-fn wide(x: u32) -> u64
-    ensures { result ≡ x }
-{
-    x as u64
 }
 
 // How often privilege p is allowed.
@@ -66,14 +59,7 @@ fn bar_at(counts: &[u32], at: [usize; 3], p: usize) -> u64
         return 0;
     }
     let last = at[2];
-    wide(often_at(counts, last)) + 1
-}
-
-// The number, or 3 if it is above.
-fn at_most_three(v: usize) -> u32
-    ensures { result ≡ min 3 v }
-{
-    if v < 3 { v as u32 } else { 3 }
+    u64::from(often_at(counts, last)) + 1
 }
 
 // The leaders of a run that holds three numbers for each privilege, of which the first says how often it is allowed.
@@ -83,17 +69,15 @@ pub fn leaders_of(counts: &[u32]) -> Leaders
     let v = counts.len() / 3;
     let mut at = [0usize; 3];
     let mut bar = 0u64;
-    let mut p = 0;
-    while p < v {
-        if bar <= wide(often_at(counts, p)) {
+    for p in 0..v {
+        if bar <= u64::from(often_at(counts, p)) {
             let next = entered(counts, at, p);
             bar = bar_at(counts, next, p + 1);
             at = next;
         }
-        p += 1;
     }
     Leaders {
-        count: at_most_three(v),
-        at: at,
+        count: v.min(3) as u32,
+        at,
     }
 }

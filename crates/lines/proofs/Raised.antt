@@ -1,8 +1,6 @@
 -- Raised bytes are as many. Assumes nothing.
-use Prim.Native.Nat.{ℕ, ◌+◌}
-use mathlib.Core.Path.{◌≡◌}
-use mathlib.Core.List.{List}
-use lib.ListN.{length, length-map}
+use Rattle.std.proofs.Common.{ℕ, ◌+◌, ◌≡◌, List, length}
+use Rattle.std.proofs.Math.ListN.{length-map}
 use Rattle.lines.specs.Text.{raised}
 
 pub raised_length : (by : ℕ) (l : List ℕ) → length (raised by l) ≡ length l

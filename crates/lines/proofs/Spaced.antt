@@ -1,16 +1,10 @@
 -- Numbers with a blank before each, put one after another, and the room that a line's parts take. Assumes nothing.
-use Prim.Native.Nat.{ℕ, zero, suc, ◌+◌, ◌*◌, ◌/◌, ◌%◌, ◌≤◌, ◌<◌}
-use mathlib.Core.Path.{◌≡◌, refl, sym, ap, ◌∙◌}
-use mathlib.Core.Bool.{Bool, true, false, cond}
-use mathlib.Core.List.{List, [], ◌∷◌, ◌++◌, append_assoc, append-nil}
-use native.Mathlib.Omega.{arith}
-use lib.Dec.{ltb}
-use lib.ListN.{length, get_or, take, length-append, length-map}
-use lib.Seq.{take-suc, take-length, length-take-le}
+use Rattle.std.proofs.Common.{ℕ, zero, suc, ◌+◌, ◌*◌, ◌/◌, ◌%◌, ◌≤◌, ◌<◌, ◌≡◌, refl, sym, ap, ◌∙◌, Bool, true, false, cond, List, [], ◌∷◌, ◌++◌, append_assoc, append-nil, arith, ltb, length, get_or, take, length-append, take-suc, length-take-le}
+use Rattle.std.proofs.Math.ListN.{length-map}
 use Rattle.lines.specs.Text.{raised, decimal_within, decimal, numbers, marks_text, line}
 use Rattle.runs.specs.Putting.{Puts}
 use Rattle.lines.specs.Steps.Putting.{Raisable}
-use Rattle.runs.proofs.Texts.{puts_none, puts_then, puts_length, puts_as}
+use Rattle.runs.proofs.Texts.{puts_none, puts_then, puts_as}
 
 pub one_raisable : (b by : ℕ) → b + by < 256 → Raisable by (b ∷ [])
 one_raisable b by h zero l = h
@@ -51,9 +45,6 @@ module _ {d ns : List ℕ} {from : ℕ} where
   pub spaced_room : {k at : ℕ} {out : List ℕ} → Spaced d from ns k out at → at ≤ from + 21 * k
   spaced_room {k} s = omega (arith, s.puts.end, room_left ns k s.within)
 
-  pub spaced_length : {k at : ℕ} {out : List ℕ} → from + 21 * length ns ≤ length d → Spaced d from ns k out at → length out ≡ length d
-  spaced_length {k} room s = puts_length (omega (arith, room_left ns k s.within, s.within)) s.puts
-
   pub spaced_more : {k at r : ℕ} {out after : List ℕ} → from + 21 * length ns ≤ length d → k < length ns → Spaced d from ns k out at
       → Puts (32 ∷ decimal (get_or ns k 0)) out at after r → Spaced d from ns (k + 1) after r
   spaced_more {k} room h s p =
@@ -64,11 +55,6 @@ module _ {d ns : List ℕ} {from : ℕ} where
         within = omega arith;
         puts = puts_as one_more (puts_then (omega (arith, room_left ns k s.within, s.within)) s.puts p);
       }
-
-  pub spaced_end : {k at : ℕ} {out : List ℕ} → length ns ≤ k → Spaced d from ns k out at → Puts (numbers ns) d from out at
-  spaced_end {k} h s =
-      let e : k ≡ length ns = omega (arith, s.within) in
-      puts_as (ap numbers (ap (λ (n : ℕ). take n ns) e ∙ take-length ns)) s.puts
 
 pub marks_length : (ms : List ℕ) → length (marks_text ms) ≤ 1 + length ms
 unfolding marks_text

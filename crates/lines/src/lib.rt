@@ -11,12 +11,10 @@ fn put(out: &mut [u8], at: usize, bytes: &[u8], by: u8) -> usize
     requires { (at + length bytes.now ≤ length out.old) × Raisable by bytes.now }
     ensures { Puts (raised by bytes.now) out.old at out.new result }
 {
-    let mut k = 0;
-    while k < bytes.len() {
-        out[at + k] = bytes[k] + by;
-        k += 1;
+    for (k, byte) in bytes.iter().enumerate() {
+        out[at + k] = *byte + by;
     }
-    at + k
+    at + bytes.len()
 }
 
 // Puts the decimal digits of a number.
@@ -26,7 +24,7 @@ fn put_number(out: &mut [u8], at: usize, n: usize) -> usize
 {
     let mut digits = [0u8; 20];
     let k = io::decimal(n as u64, &mut digits);
-    put(out, at, &digits[0..k], 0)
+    put(out, at, &digits[..k], 0)
 }
 
 // Puts a blank and a number.
@@ -44,10 +42,8 @@ fn put_numbers(out: &mut [u8], at: usize, ns: &[usize]) -> usize
     ensures { Puts (numbers ns.now) out.old at out.new result }
 {
     let mut end = at;
-    let mut i = 0;
-    while i < ns.len() {
-        end = put_spaced(out, end, ns[i]);
-        i += 1;
+    for n in ns {
+        end = put_spaced(out, end, *n);
     }
     end
 }
@@ -57,7 +53,7 @@ fn put_marks(out: &mut [u8], at: usize, marks: &[u8]) -> usize
     requires { (at + 1 + length marks.now ≤ length out.old) × Raisable 48 marks.now }
     ensures { Puts (marks_text marks.now) out.old at out.new result }
 {
-    if marks.len() == 0 {
+    if marks.is_empty() {
         return at;
     }
     let digits = put(out, at, b" ", 0);

@@ -1,15 +1,8 @@
 -- Line by line: the next line starts where the last one ended, privileges that are not set add nothing, marks above those that are listed do not
 -- matter, and a line has at most 109 bytes. Assumes nothing.
-use Prim.Native.Nat.{ℕ, zero, suc, ◌+◌, ◌-◌, ◌*◌, ◌≤◌, ◌<◌}
+use Rattle.std.proofs.Common.{ℕ, zero, suc, ◌+◌, ◌-◌, ◌*◌, ◌≤◌, ◌<◌, ◌≡◌, refl, sym, ap, subst, ◌∙◌, inl, inr, ⊎_elim, Bool, true, false, List, [], ◌∷◌, ◌++◌, arith, eqb, length, get_or, take, length-append, take-append-drop, take-take}
 use Prim.Native.Char.{code}
-use mathlib.Core.Path.{◌≡◌, refl, sym, ap, subst, ◌∙◌}
-use mathlib.Core.Logic.{inl, inr, ⊎_elim}
-use mathlib.Core.Bool.{Bool, true, false}
-use mathlib.Core.List.{List, [], ◌∷◌, ◌++◌}
-use native.Mathlib.Omega.{arith}
-use lib.Dec.{eqb}
-use lib.ListN.{length, get_or, take, length-append, take-append-drop}
-use lib.Seq.{slice, take-take}
+use Rattle.std.proofs.Math.Seq.{slice}
 use Rattle.table.specs.Words.{types}
 use Rattle.table.specs.Named.{Named, texts, inserts, deletes, replaces, name_of}
 use Rattle.table.specs.Check.{Accepted}

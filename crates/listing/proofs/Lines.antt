@@ -1,16 +1,8 @@
 -- A line can be read in one way only: its parts have no blank and no newline, so blanks and the newline cut it where it was put together; labels
 -- are apart and verbs differ, so the parts tell the edit, and the edit its privilege. Assumes nothing.
-use Prim.Native.Nat.{ℕ, zero, suc, ◌+◌, ◌-◌, ◌≤◌, ◌<◌}
+use Rattle.std.proofs.Common.{ℕ, zero, suc, ◌+◌, ◌-◌, ◌≤◌, ◌<◌, ◌≡◌, refl, sym, ap, subst, ◌∙◌, ◌≢◌, ◌⊎◌, inl, inr, Bool, true, false, ◌&&◌, List, [], ◌∷◌, ◌++◌, append_assoc, arith, ltb-true, eqb, ltb, length, get_or, take, drop, length-drop, take-append-drop, get_or-drop, get_or-take}
 use Prim.Native.Char.{code}
-use mathlib.Core.Path.{◌≡◌, refl, sym, ap, subst, ◌∙◌}
-use mathlib.Core.Logic.{◌≢◌, ◌⊎◌, inl, inr}
-use mathlib.Core.Bool.{Bool, true, false, ◌&&◌}
-use mathlib.Core.List.{List, [], ◌∷◌, ◌++◌, append_assoc}
-use native.Mathlib.Omega.{arith}
-use borrow.Author.Tests.{ltb-true}
-use lib.Dec.{eqb, ltb}
-use lib.ListN.{length, get_or, take, drop, length-drop, take-append-drop}
-use lib.Seq.{slice, get_or-drop, get_or-take, length-slice}
+use Rattle.std.proofs.Math.Seq.{slice, length-slice}
 use Rattle.table.specs.Words.{types}
 use Rattle.table.specs.Privilege.{Edit, Offers, privilege_of}
 use Rattle.table.specs.Named.{Named, texts, inserts, deletes, replaces, name_of}

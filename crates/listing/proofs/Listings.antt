@@ -1,13 +1,7 @@
 -- A policy has one listing and a listing one policy: at each start of a listing stands the line of a set privilege, each set privilege has a line,
 -- and lines ascend; so no listing has a fault, and a text has one first fault. Assumes nothing.
-use Prim.Native.Nat.{ℕ, suc, ◌≤◌, ◌<◌}
-use mathlib.Core.Path.{◌≡◌, refl, sym, ap, subst, ◌∙◌}
-use mathlib.Core.Logic.{◌≢◌, ◌⊎◌, inl, inr}
-use mathlib.Core.List.{List, ◌++◌}
+use Rattle.std.proofs.Common.{ℕ, suc, ◌≤◌, ◌<◌, ◌≡◌, refl, sym, ap, subst, ◌∙◌, ◌≢◌, ◌⊎◌, inl, inr, List, ◌++◌, arith, length, get_or, take, drop, take-append-drop, ext_get_or, length-take-le}
 use native.Mathlib.Decide.{ℕ_discrete}
-use native.Mathlib.Omega.{arith}
-use lib.ListN.{length, get_or, take, drop, take-append-drop}
-use lib.Seq.{ext_get_or, length-take-le}
 use Rattle.table.specs.Words.{types}
 use Rattle.table.specs.Named.{name_of}
 use Rattle.table.specs.Check.{Accepted}

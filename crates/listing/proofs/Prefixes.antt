@@ -1,13 +1,9 @@
 -- The lines of a text are lines of every text that begins with it, and one line behind a text that ends with a newline adds one start.
 -- Assumes nothing.
-use Prim.Native.Nat.{ℕ, suc, ◌+◌, ◌-◌, ◌≤◌, ◌<◌}
+use Rattle.std.proofs.Common.{ℕ, suc, ◌+◌, ◌-◌, ◌≤◌, ◌<◌, ◌≡◌, sym, ap, subst, ◌∙◌, ◌⊎◌, inl, inr, List, [], ◌++◌, arith, length, get_or, drop, length-append, get_or-append-add}
 use Prim.Native.Char.{code}
-use mathlib.Core.Path.{◌≡◌, sym, ap, subst, ◌∙◌}
-use mathlib.Core.Logic.{◌⊎◌, inl, inr}
-use mathlib.Core.List.{List, [], ◌++◌}
-use native.Mathlib.Omega.{arith}
-use lib.ListN.{length, get_or, drop, length-append, get_or-append}
-use lib.Seq.{slice, get_or-append-add, take-append-le, take-length, drop-append_seam}
+use Rattle.std.proofs.Math.ListN.{get_or-append}
+use Rattle.std.proofs.Math.Seq.{slice, take-append-le, take-length, drop-append_seam}
 use Rattle.table.specs.Words.{types}
 use Rattle.table.specs.Check.{Accepted}
 use Rattle.table.proofs.Lists.{le_or_lt}

@@ -1,7 +1,5 @@
 -- Labels that agree on the table's types give the same lines, listings and faults: an edit names no other type. Assumes nothing.
-use Prim.Native.Nat.{ℕ, ◌<◌}
-use mathlib.Core.Path.{◌≡◌, sym, ap, ◌∙◌}
-use mathlib.Core.List.{List}
+use Rattle.std.proofs.Common.{ℕ, ◌<◌, ◌≡◌, sym, ap, ◌∙◌, List}
 use Rattle.table.specs.Words.{types}
 use Rattle.table.specs.Named.{Named, texts, inserts, deletes, replaces, name_of}
 use Rattle.table.specs.Check.{Accepted}

@@ -1,14 +1,8 @@
 -- Roles as listings, byte for byte: S1 to S9 of document 01 and the vendor's over the sample schema, two over it in format 2, and one over a schema with made types.
 -- Assumes nothing.
-use Prim.Native.Nat.{ℕ, zero, suc, ◌<◌}
+use Rattle.std.proofs.Common.{ℕ, zero, suc, ◌<◌, ◌≡◌, refl, Bool, true, false, cond, List, [], ◌∷◌, ◌++◌, map, arith, eqb-true, eqb, get_or}
 use Prim.Native.String.{String}
-use mathlib.Core.Path.{◌≡◌, refl}
-use mathlib.Core.Bool.{Bool, true, false, cond}
-use mathlib.Core.List.{List, [], ◌∷◌, ◌++◌, map}
-use native.Mathlib.Omega.{arith}
-use borrow.Author.Tests.{eqb-true, eqb-false}
-use lib.Dec.{eqb}
-use lib.ListN.{get_or}
+use borrow.Author.Tests.{eqb-false}
 use Rattle.table.specs.Sum.{sum_below}
 use Rattle.table.specs.Rule.{rule_of, rule_at, children_at, count_of}
 use Rattle.table.specs.Privilege.{gap_of, privileges_at, first_privilege, privileges, replace_of}

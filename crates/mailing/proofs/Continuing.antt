@@ -1,10 +1,5 @@
 -- Lines that follow on those before: none, those of one privilege, one after another, and all of them. Assumes nothing.
-use Prim.Native.Nat.{ℕ, ◌+◌, ◌*◌, ◌≤◌}
-use mathlib.Core.Path.{◌≡◌, refl, sym, ap, subst, ◌∙◌}
-use mathlib.Core.Logic.{◌≢◌}
-use mathlib.Core.List.{List, [], ◌++◌, append-nil, append_assoc}
-use native.Mathlib.Omega.{arith}
-use lib.ListN.{length, get_or, length-append}
+use Rattle.std.proofs.Common.{ℕ, ◌+◌, ◌*◌, ◌≤◌, ◌≡◌, refl, sym, ap, subst, ◌∙◌, ◌≢◌, List, [], ◌++◌, append-nil, append_assoc, arith, length, get_or, length-append}
 use Rattle.table.specs.Words.{types}
 use Rattle.table.specs.Privilege.{first_privilege, privileges}
 use Rattle.runs.specs.Putting.{Fits}
@@ -60,9 +55,6 @@ module _ {label : ℕ → List ℕ} {ws marks : List ℕ} where
     short = omega (arith, p.short, o.short, length-append p.part o.part);
     fits = fits_then p.fits o.fits;
   }
-
-  pub continues_to : {a b c : ℕ} {d e : List ℕ} {at r : ℕ} → b ≡ c → Continues label ws marks a b d at e r → Continues label ws marks a c d at e r
-  continues_to {a} {b} {c} {d} {e} {at} {r} q h = subst (λ (n : ℕ). Continues label ws marks a n d at e r) q h
 
   -- the place behind them is no further than 109 bytes for each privilege
   pub continues_few : {a b : ℕ} {d e : List ℕ} {at r : ℕ} → at ≤ 109 * a → Continues label ws marks a b d at e r → r ≤ 109 * b

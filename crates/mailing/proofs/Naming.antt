@@ -1,11 +1,5 @@
 -- The edits at a type, by their number there: each kind of type has its own. Assumes nothing.
-use Prim.Native.Nat.{ℕ, ◌+◌, ◌-◌, ◌*◌, ◌/◌, ◌%◌, ◌≤◌, ◌<◌}
-use mathlib.Core.Path.{◌≡◌, refl, sym, ap, subst, ◌∙◌}
-use mathlib.Core.Logic.{◌≢◌, inl, inr}
-use mathlib.Core.List.{List}
-use native.Mathlib.Nat.{mul-zero, mul-le-mul_right, mod-lt, div-add-mod'}
-use native.Mathlib.Omega.{arith}
-use borrow.Author.Tests.{lt-ltb, le-ltb}
+use Rattle.std.proofs.Common.{ℕ, ◌+◌, ◌-◌, ◌*◌, ◌/◌, ◌%◌, ◌≤◌, ◌<◌, ◌≡◌, refl, sym, ap, subst, ◌∙◌, ◌≢◌, inl, inr, List, mul-zero, mul-le-mul_right, mod-lt, div-add-mod', arith, lt-ltb, le-ltb}
 use Rattle.table.specs.Words.{types}
 use Rattle.table.specs.Rule.{rule_at, count_of, child_at, IsChoice, IsStar}
 use Rattle.table.specs.Privilege.{gap_of, privileges_at, first_privilege, replace_of, text, insert, delete, exchange, replace}

@@ -58,12 +58,9 @@ pub(crate) fn named_at(words: &[u16], x: usize, k: usize) -> Naming
     requires { Accepted words.now × (x < types words.now) × (k < privileges_at words.now x) }
     ensures { EditAt words.now x k result }
 {
-    let rule = rule_at(words, x);
-    match rule {
-        Rule::Empty => Naming::Text(x),
-        Rule::Text => Naming::Text(x),
-        Rule::Sequence { first: _, count: _ } => Naming::Text(x),
-        Rule::Choice { first: _, count: _ } => choice_edit(words, x, k),
-        Rule::Star { first: _, count: _ } => star_edit(words, x, k),
+    match rule_at(words, x) {
+        Rule::Choice { .. } => choice_edit(words, x, k),
+        Rule::Star { .. } => star_edit(words, x, k),
+        Rule::Empty | Rule::Text | Rule::Sequence { .. } => Naming::Text(x),
     }
 }

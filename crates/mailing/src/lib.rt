@@ -56,10 +56,8 @@ fn put_type(
     ensures { Continues (label_in names.now starts.now) words.now marks.now first until out.old at out.new result }
 {
     let mut end = at;
-    let mut p = first;
-    while p < until {
+    for p in first..until {
         end = put_privilege(words, names, starts, marks, x, first, p, out, end);
-        p += 1;
     }
     end
 }
@@ -69,15 +67,12 @@ pub fn put_lines(words: &[u16], names: &[u8], starts: &[u16], marks: &[u8], out:
     requires { Mailable words.now names.now starts.now marks.now }
     ensures { LinesPut (label_in names.now starts.now) words.now marks.now out.old out.new result }
 {
-    let e = types(words);
     let mut end = 0;
     let mut first = 0;
-    let mut x = 0;
-    while x < e {
+    for x in 0..types(words) {
         let until = first + privileges_at(words, x);
         end = put_type(words, names, starts, marks, x, first, until, out, end);
         first = until;
-        x += 1;
     }
     end
 }

@@ -4,8 +4,7 @@ use Rattle.std.proofs.Common.{ℕ, zero, suc, ◌+◌, ◌≤◌, ◌≡◌, ref
 use Rattle.table.specs.Steps.Found.{Lowest}
 use Rattle.table.specs.Rule.{count_of}
 use Rattle.table.specs.Privilege.{privileges, delete_of, exchange_of, replace_of}
-use Rattle.table.specs.declared.Found.{Found}
-use Rattle.table.specs.declared.Found.TheVariants.{At, Nothing}
+use Rattle.std.specs.Prelude.{Option as Place, Some as At, None as Nowhere}
 use Rattle.table.proofs.Test.{Test, is_equal, both, either, fails, means, settle, lowest_of, lowest_of_lem}
 use Rattle.policy.specs.Marks.{Allowed}
 use Rattle.table.specs.Plus.{last, next}
@@ -25,9 +24,9 @@ use Rattle.policy.proofs.Policies.{marked_within}
 use Rattle.mending.proofs.Mended.{takes_allowed, takes_below}
 
 -- something was found, and it has the property
-abbrev Hits : (ℕ → Type 0) → Found → Type 0
+abbrev Hits : (ℕ → Type 0) → Place ℕ → Type 0
 Hits P (At p) = P p
-Hits P Nothing = ⊥
+Hits P Nowhere = ⊥
 
 -- what the rule takes
 module _ (ws m : List ℕ) where
@@ -40,25 +39,25 @@ module _ (ws m : List ℕ) where
   some_lead (next k s r) = (k, record { step = s; on = inr r })
 
   -- the replacement of i by the k that was found
-  abbrev replace_by : ℕ → ℕ → Found → Found
+  abbrev replace_by : ℕ → ℕ → Place ℕ → Place ℕ
   replace_by x i (At k) = At (replace_of ws x i k)
-  replace_by x i Nothing = Nothing
+  replace_by x i Nowhere = Nowhere
 
   -- by the lowest k that leads from i to j
-  abbrev lead_by : ℕ → ℕ → ℕ → Found
+  abbrev lead_by : ℕ → ℕ → ℕ → Place ℕ
   lead_by x i j = replace_by x i (lowest_of (count_of ws x) (λ k. fails (leads x i j k)))
 
   lead_by_lem : (x i j : ℕ) → Reached ws (Allowed m) x i j → Hits (λ p. LowestLead ws m x i j p) (lead_by x i j)
   lead_by_lem x i j r = go (lowest_of (count_of ws x) (λ k. fails (leads x i j k))) (lowest_of_lem (count_of ws x) (λ k. fails (leads x i j k)))
     where
-      go : (k : Found) → Lowest (λ k. ¬ Leads ws m x i j k) (count_of ws x) k → Hits (λ p. LowestLead ws m x i j p) (replace_by x i k)
+      go : (k : Place ℕ) → Lowest (λ k. ¬ Leads ws m x i j k) (count_of ws x) k → Hits (λ p. LowestLead ws m x i j p) (replace_by x i k)
       go (At k) h = record {
         k = k;
         leads = elim (settle (leads x i j k)) [ inl l ↦ l | inr f ↦ absurd (h.fails f) ];
         lowest = h.before;
         is = refl;
       }
-      go Nothing h = let l = some_lead r in h l.0 l.1.step.can.to l.1
+      go Nowhere h = let l = some_lead r in h l.0 l.1.step.can.to l.1
 
   -- at a breach of each condition
   abbrev pick_by : ℕ → Bool → ℕ
@@ -75,8 +74,8 @@ module _ (ws m : List ℕ) where
       go true out into = delete (out tt) refl
       go false out into = exchange into refl
 
-  abbrev taken_at : Condition → Spot → Found
-  taken_at None s = Nothing
+  abbrev taken_at : Condition → Spot → Place ℕ
+  taken_at None s = Nowhere
   taken_at InsertDelete s = At (star_by s.element)
   taken_at Chain s = lead_by s.element s.i s.j
   taken_at Cycle s = lead_by s.element s.i s.j
@@ -88,19 +87,19 @@ module _ (ws m : List ℕ) where
   take_at Cycle s q h = let r : Reached ws (Allowed m) s.element s.i s.j = rw h.same h.reached in lead_by_lem s.element s.i s.j r
 
   -- at the first spot, or nothing where there is none
-  abbrev pub take_by : Found
+  abbrev pub take_by : Place ℕ
   take_by = let b = verdict_by ws m in taken_at b.condition (spot_of b)
 
-  abbrev pub Taken : Found → Type 0
+  abbrev pub Taken : Place ℕ → Type 0
   Taken (At p) = (s : Spot) × FirstSpot (IsBreach ws m) s × Takes ws m s p
-  Taken Nothing = Clean ws m
+  Taken Nowhere = Clean ws m
 
   pub take_by_lem : Taken take_by
   take_by_lem = go (verdict_by ws m) (verdict_by_lem ws m)
     where
-      first : (b : Breach) → FirstBreach ws m b → (r : Found) → Hits (λ p. Takes ws m (spot_of b) p) r → Taken r
+      first : (b : Breach) → FirstBreach ws m b → (r : Place ℕ) → Hits (λ p. Takes ws m (spot_of b) p) r → Taken r
       first b f (At p) h = (spot_of b, f.spot, h)
-      first b f Nothing h = absurd h
+      first b f Nowhere h = absurd h
 
       go : (b : Breach) → Verdict ws m b → Taken (taken_at b.condition (spot_of b))
       go b (clean q e) = rw e q
@@ -116,7 +115,7 @@ module _ (ws : List ℕ) where
   abbrev pub mend_within : ℕ → List ℕ → Mended
   mend_within zero m = record { marks = m; count = 0 }
   mend_within (suc left) m = elim (take_by ws m) [
-    | Nothing ↦ record { marks = m; count = 0 }
+    | Nowhere ↦ record { marks = m; count = 0 }
     | At p ↦ let rest = mend_within left (set m p 2) in record { marks = rest.marks; count = suc rest.count }
   ]
 
@@ -130,18 +129,18 @@ module _ (ws : List ℕ) where
   pub mend_within_lem : (left : ℕ) (m : List ℕ) → allowed_in m (privileges ws) ≤ left → Mends ws m (mend_within left m).marks (mend_within left m).count
   mend_within_lem zero m l = go (take_by ws m) (take_by_lem ws m)
     where
-      go : (r : Found) → Taken ws m r → Mends ws m m 0
-      go Nothing q = done q
+      go : (r : Place ℕ) → Taken ws m r → Mends ws m m 0
+      go Nowhere q = done q
       go (At p) t = absurd (omega (arith, taken_less m p t))
   mend_within_lem (suc left) m l = go (take_by ws m) (take_by_lem ws m) (λ p t. mend_within_lem left (set m p 2) (omega (arith, taken_less m p t)))
     where
-      go : (r : Found) → Taken ws m r
+      go : (r : Place ℕ) → Taken ws m r
           → ((p : ℕ) → Taken ws m (At p) → Mends ws (set m p 2) (mend_within left (set m p 2)).marks (mend_within left (set m p 2)).count)
           → let n : Mended = elim r [
-            | Nothing ↦ record { marks = m; count = 0 }
+            | Nowhere ↦ record { marks = m; count = 0 }
             | At p ↦ let rest = mend_within left (set m p 2) in record { marks = rest.marks; count = suc rest.count }
           ] in Mends ws m n.marks n.count
-      go Nothing q rest = done q
+      go Nowhere q rest = done q
       go (At p) t rest = more t.0 p t.1 t.2 (rest p t)
 
   abbrev pub mend_by : List ℕ → Mended

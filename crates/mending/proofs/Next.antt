@@ -4,6 +4,7 @@ use mathlib.Core.Path.{◌≡◌, refl, sym, ap, subst, ◌∙◌}
 use mathlib.Core.Logic.{◌≢◌, ◌⊎◌, inl, inr}
 use mathlib.Core.Bool.{true}
 use mathlib.Core.List.{List}
+use Rattle.std.proofs.Common.{None}
 use native.Mathlib.Omega.{arith}
 use Rattle.table.specs.Plus.{last, next}
 use Rattle.table.specs.Rule.{rule_at, kind_in, IsChoice, IsStar, count_of}
@@ -22,8 +23,8 @@ use Rattle.verdict.specs.Steps.Spoils.{Flagged}
 use Rattle.verdict.specs.Steps.Visits.{Searched, BreachAt}
 use Rattle.verdict.specs.declared.Spot.{Spot}
 use Rattle.verdict.specs.declared.Condition.{Condition}
-use Rattle.verdict.specs.declared.Condition.TheVariants.{None, Cycle}
-use Rattle.verdict.proofs.Firsts.{CleanBefore, clean_more, at_none, at_first, searched_first}
+use Rattle.verdict.specs.declared.Condition.TheVariants.{Cycle}
+use Rattle.verdict.proofs.Firsts.{CleanBefore, clean_more, at_none, at_first}
 use Rattle.verdict.proofs.Breached.{plain_none, star_only, choice_only}
 use Rattle.verdict.proofs.Flagged.{breach_as, spot_as}
 use Rattle.mending.specs.Mends.{Leads, LowestLead, StarTakes, TakesFor}
@@ -63,23 +64,22 @@ module _ {ws m : List ℕ} {x : ℕ} {n : Numbering} {square : List ℕ} (number
   }
 
 -- what a search by the flags has found at type x
-module _ {ws m flags : List ℕ} {x : ℕ} {kids : List ℕ} {n : Numbering} (v : Visited ws m flags x kids n) {s : Spot}
-    (found : Searched (BreachAt ws m (Flagged flags) x) s) where
-  pub next_none : s.condition ≡ None → CleanUpTo ws m (x + 1)
-  next_none k = clean_more ws m (ForbiddenBelow ws m) v.clean
-      (λ t p h e. let r = breach_as m v.policy.accepted v.spoilt.back t p h in at_none ws m (Flagged flags) found k t r.0 r.1 e)
+module _ {ws m flags : List ℕ} {x : ℕ} {kids : List ℕ} {n : Numbering} (v : Visited ws m flags x kids n) where
+  pub next_none : Searched (BreachAt ws m (Flagged flags) x) None → CleanUpTo ws m (x + 1)
+  next_none found = clean_more ws m (ForbiddenBelow ws m) v.clean
+      (λ t p h e. let r = breach_as m v.policy.accepted v.spoilt.back t p h in at_none ws m (Flagged flags) found t r.0 r.1 e)
 
-  module _ (d : s.condition ≢ None) where
+  module _ {s : Spot} (found : FirstSpot (BreachAt ws m (Flagged flags) x) s) where
     by : ℕ
-    by = (searched_first found d).broken.0
+    by = found.broken.0
 
     here : BreachAt ws m (Flagged flags) x s by
     unfolding by
-    here = (searched_first found d).broken.1
+    here = found.broken.1
 
     -- no type before has a breach by them either, so it is the first spot
     spot : FirstSpot (IsBreach ws m) s
-    spot = spot_as m v.policy.accepted v.spoilt (searched_first (at_first ws m (Flagged flags) before found d) d)
+    spot = spot_as m v.policy.accepted v.spoilt (at_first ws m (Flagged flags) before found)
       where
         before : CleanBefore ws m (Flagged flags) x
         before t p h = let r = breach_as m v.policy.accepted v.spoilt.onto t p h in v.clean t r.0 r.1

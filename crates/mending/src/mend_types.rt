@@ -13,11 +13,9 @@ use policy::marks::copy;
 use policy::reach::reached_by;
 use policy::renew::is_renewed;
 use policy::rows::{read_rows, toggle};
-use table::Found;
 use table::privilege::{Numbering, gap_of, numbers_at, privileges_in, replacement};
 use table::rule::{Rule, children, rule_at};
 use table::words::types;
-use verdict::breaches::Pair;
 use verdict::spoilt::flag_spoilt;
 
 // Mends the star x, whose child can be renewed: what the rule takes is forbidden, and once more if it still has a breach.
@@ -33,14 +31,11 @@ fn mend_renewed(
     ensures { Cleaned words.now flags.now x m.old m.new result }
 {
     let mut count = 0;
-    loop {
-        let taken = star_taken(words, m, flags, x, kids, n);
-        let Found::At(p) = taken else {
-            return count;
-        };
+    while let Some(p) = star_taken(words, m, flags, x, kids, n) {
         m[p] = 2;
         count += 1;
     }
+    count
 }
 
 // Mends the star x: where its child cannot be renewed it has no breach.
@@ -80,7 +75,7 @@ fn mend_choice(
     loop {
         let square = reached_by(words, m, x, n, allowed);
         let taken = next_taken(words, m, flags, x, kids, n, &square, &allowed, &forbidden);
-        let Pair::At(i, k) = taken else {
+        let Some((i, k)) = taken else {
             return count;
         };
         m[replacement(n, i, k)] = 2;

@@ -10,10 +10,9 @@ ghost use Rattle.mending.specs.Steps.Taking.{Visited, LeadsIn, LowestIn, StarTak
 
 use policy::renew::both_allowed;
 use policy::rows::{first_shared, leads};
-use table::Found;
 use table::privilege::{Numbering, deletion, exchange};
 use verdict::Condition;
-use verdict::breaches::{Pair, breach_in, star_breach};
+use verdict::breaches::{breach_in, star_breach};
 
 // Does k lead from i to j?
 fn is_lead(
@@ -63,21 +62,19 @@ pub fn next_taken(
     square: &[u16; 16],
     allowed: &[u16; 16],
     forbidden: &[u16; 16],
-) -> Pair
+) -> Option<(usize, usize)>
     requires { Visited words.now m.now flags.now x kids.now n × IsChoice words.now x × Square (count_of words.now x) (Reached words.now (Allowed m.now) x) square.now × Read m.now n allowed.now forbidden.now }
     ensures { NextTaken words.now m.now x n result }
 {
-    let spot = breach_in(words, m, flags, x, kids, n, square, forbidden);
-    let condition = spot.condition;
-    if let Condition::None = condition {
-        return Pair::Nothing;
-    }
+    let Some(spot) = breach_in(words, m, flags, x, kids, n, square, forbidden) else {
+        return None;
+    };
     let i = spot.i;
     // At a cycle j is i. Told apart, each gets a loop of its own from the compiler.
-    if let Condition::Cycle = condition {
-        return Pair::At(i, lowest_lead(m, n, square, allowed, i, i));
+    if let Condition::Cycle = spot.condition {
+        return Some((i, lowest_lead(m, n, square, allowed, i, i)));
     }
-    Pair::At(i, lowest_lead(m, n, square, allowed, i, spot.j))
+    Some((i, lowest_lead(m, n, square, allowed, i, spot.j)))
 }
 
 // What the rule takes next at the star x: the delete if insert and delete are both allowed, otherwise the exchange.
@@ -88,17 +85,15 @@ pub fn star_taken(
     x: usize,
     kids: &[u16],
     n: Numbering,
-) -> Found
+) -> Option<usize>
     requires { Visited words.now m.now flags.now x kids.now n × IsStar words.now x }
     ensures { StarTaken words.now m.now x result }
 {
-    let spot = star_breach(words, m, flags, x, kids, n);
-    let condition = spot.condition;
-    if let Condition::None = condition {
-        return Found::Nothing;
-    }
+    let Some(_) = star_breach(words, m, flags, x, kids, n) else {
+        return None;
+    };
     if both_allowed(m, n) {
-        return Found::At(deletion(n));
+        return Some(deletion(n));
     }
-    Found::At(exchange(n))
+    Some(exchange(n))
 }

@@ -1,12 +1,6 @@
 -- No '>' stands in a content; from where on the names in it are those that it uses. Assumes nothing.
-use Prim.Native.Nat.{ℕ, suc, ◌≤◌, ◌<◌}
+use Rattle.std.proofs.Common.{ℕ, suc, ◌≤◌, ◌<◌, ◌≡◌, refl, ◌≢◌, ◌⊎◌, inl, inr, Bool, false, List, [], ◌∷◌, append-nil, arith, length}
 use Prim.Native.Char.{code}
-use mathlib.Core.Path.{◌≡◌, refl}
-use mathlib.Core.Logic.{◌≢◌, ◌⊎◌, inl, inr}
-use mathlib.Core.Bool.{Bool, false}
-use mathlib.Core.List.{List, [], ◌∷◌, append-nil}
-use native.Mathlib.Omega.{arith}
-use lib.ListN.{length}
 use Rattle.grammar.specs.Bytes.{ascii, is_name_byte, Byte, Of, Span, stop, go_on, Literal, byte}
 use Rattle.grammar.specs.Tree.{Use, Content, Declaration, Nth, uses_in, uses_of}
 use Rattle.grammar.specs.Grammar.{Pcdata, as_choice, as_sequence}
@@ -50,9 +44,6 @@ clear_join {b = b} x y = record {
 
 clear_one : {t : List ℕ} {a : ℕ} → ¬ Byte t a (code ">") → Clear t a (suc a)
 clear_one {t} {a} f = record { le = omega arith; none = λ j l m g. (let e : j ≡ a = omega arith in f (rw e at g)) }
-
-pub clear_more : {t : List ℕ} {a b : ℕ} → Clear t a b → ¬ Byte t b (code ">") → Clear t a (suc b)
-clear_more x f = clear_join x (clear_one f)
 
 clear_byte : {t : List ℕ} {a x : ℕ} → Byte t a x → x ≢ code ">" → Clear t a (suc a)
 clear_byte g n = clear_one (λ h. n (clash g h))

@@ -1,10 +1,5 @@
 -- Finding a name in the list. Assumes nothing.
-use Prim.Native.Nat.{ℕ, suc, ◌≤◌, ◌<◌, min}
-use mathlib.Core.Path.{◌≡◌, refl, sym, ◌∙◌}
-use mathlib.Core.Logic.{◌⊎◌, inl, inr}
-use mathlib.Core.List.{List}
-use native.Mathlib.Omega.{arith}
-use lib.ListN.{length}
+use Rattle.std.proofs.Common.{ℕ, suc, ◌≤◌, ◌<◌, min, ◌≡◌, refl, sym, ◌∙◌, ◌⊎◌, inl, inr, List, arith, length}
 use Rattle.grammar.specs.Tree.{Declaration, Nth}
 use Rattle.grammar.proofs.Stopping.{le_or_lt}
 use Rattle.model.specs.Tables.{number_of}
@@ -13,9 +8,6 @@ use Rattle.names.specs.Steps.Order.{Upto}
 use Rattle.names.specs.Steps.Names.{place_in, number_at, Among, Listed, Ranked, Looked, found, missing, RankRead, BeforeRead, NumberRead}
 use Rattle.names.proofs.Numbered.{number_first, number_none}
 use Rattle.names.proofs.Orders.{upto_self, upto_trans, upto_both}
-
-pub ranked_start : {t list : List ℕ} {size : ℕ} {n : List ℕ} → Ranked t list size n 0 size
-ranked_start = record { upto = λ i h. absurd (omega arith); behind = λ i h k. absurd (omega arith) }
 
 module _ {t : List ℕ} {ds : List Declaration} {list : List ℕ} {size : ℕ} (x : Listed t ds list size) {n : List ℕ} where
   -- an entry stands up to the name, and so do all before it

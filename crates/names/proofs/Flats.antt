@@ -1,11 +1,6 @@
 -- Every content's particles are its used names and bytes between them. Assumes nothing.
-use Prim.Native.Nat.{ℕ, suc, ◌≤◌, ◌<◌}
+use Rattle.std.proofs.Common.{ℕ, suc, ◌≤◌, ◌<◌, ◌≡◌, refl, ◌≢◌, false, List, ◌++◌, append_assoc, arith}
 use Prim.Native.Char.{code}
-use mathlib.Core.Path.{◌≡◌, refl}
-use mathlib.Core.Logic.{◌≢◌}
-use mathlib.Core.Bool.{false}
-use mathlib.Core.List.{List, ◌++◌, append_assoc}
-use native.Mathlib.Omega.{arith}
 use Rattle.grammar.specs.Bytes.{is_name_start, Byte, stop, go_on, done, byte}
 use Rattle.grammar.specs.Tree.{Mark, Particle, Particles, Use, Nth, first, later, uses_in, uses_in_all}
 use Rattle.grammar.specs.Grammar.{Blanks, MarkAt, no_mark, question, asterisk, plus, Cp, cp_name, cp_group}

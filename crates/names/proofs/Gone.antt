@@ -1,12 +1,8 @@
 -- Walking from one declaration to the next: how many were passed, and which are left. Assumes nothing.
-use Prim.Native.Nat.{ℕ, suc, ◌≤◌}
-use mathlib.Core.Path.{◌≡◌}
-use mathlib.Core.List.{List, ◌∷◌}
-use native.Mathlib.Omega.{arith}
-use lib.ListN.{length}
+use Rattle.std.proofs.Common.{ℕ, suc, ◌≤◌, ◌≡◌, List, ◌∷◌, arith, length, Some, None}
 use Rattle.grammar.specs.Tree.{Declaration}
 use Rattle.grammar.specs.Grammar.{Items}
-use Rattle.names.specs.declared.walk.Next.TheVariants.{Declared, End}
+use Rattle.names.specs.declared.walk.Declared.{Declared}
 use Rattle.names.specs.Steps.Walk.{DeclaredAt, NextOf, none_left, one_there, NextRead, BehindRead}
 use Rattle.names.specs.Steps.Names.{Listed, Entered}
 use Rattle.names.proofs.Nths.{Left, all_left, one_less, left_count, left_first}
@@ -27,20 +23,19 @@ pub record Stepped (t : List ℕ) (ds : List Declaration) (n name body : ℕ) : 
 pub gone_start : {t : List ℕ} {ds : List Declaration} → Items t 0 ds → Gone t ds 0 0
 gone_start {ds = ds} x = record { rest = ds; left = all_left; items = x }
 
-pub gone_step : {t : List ℕ} {ds : List Declaration} {n a name body : ℕ} → Gone t ds n a → NextRead t a (Declared name body)
-    → Stepped t ds n name body
-gone_step {t} {ds} {n} {name = name} {body = body} g x = go g.rest g.left (x.of g.rest g.items)
+pub gone_step : {t : List ℕ} {ds : List Declaration} {n a : ℕ} {p : Declared} → Gone t ds n a → NextRead t a (Some p) → Stepped t ds n p.name p.body
+gone_step {t} {ds} {n} {p = p} g x = go g.rest g.left (x.of g.rest g.items)
   where
-    go : (es : List Declaration) → Left ds n es → NextOf t es (Declared name body) → Stepped t ds n name body
+    go : (es : List Declaration) → Left ds n es → NextOf t es (Some p) → Stepped t ds n p.name p.body
     go es l (one_there {d = d} {ds = ds} y) = record { declaration = d; rest = ds; left = l; there = y }
 
 pub gone_more : {t : List ℕ} {ds : List Declaration} {n name body e : ℕ} → Stepped t ds n name body → BehindRead t body e → Gone t ds (suc n) e
 gone_more {name = name} s x = record { rest = s.rest; left = one_less s.left; items = x.of s.declaration s.rest name s.there }
 
-pub gone_all : {t : List ℕ} {ds : List Declaration} {n a : ℕ} → Gone t ds n a → NextRead t a End → n ≡ length ds
+pub gone_all : {t : List ℕ} {ds : List Declaration} {n a : ℕ} → Gone t ds n a → NextRead t a None → n ≡ length ds
 gone_all {t} {ds} {n} g x = go g.rest g.left (x.of g.rest g.items)
   where
-    go : (es : List Declaration) → Left ds n es → NextOf t es End → n ≡ length ds
+    go : (es : List Declaration) → Left ds n es → NextOf t es None → n ≡ length ds
     go es l none_left = omega (arith, left_count l)
 
 -- the name of declaration n is entered, if it is one of the first 256

@@ -1,10 +1,6 @@
 -- What stands at a place of a text of the grammar, told by a byte or two. Assumes nothing.
-use Prim.Native.Nat.{ℕ, suc, ◌+◌, ◌≤◌, ◌<◌}
+use Rattle.std.proofs.Common.{ℕ, suc, ◌+◌, ◌≤◌, ◌<◌, ◌≡◌, refl, ◌∙◌, List, arith, length, Option, Some, None}
 use Prim.Native.Char.{code}
-use mathlib.Core.Path.{◌≡◌, refl, ◌∙◌}
-use mathlib.Core.List.{List}
-use native.Mathlib.Omega.{arith}
-use lib.ListN.{length}
 use Rattle.grammar.specs.Bytes.{is_space, Byte, Of, go_on, byte}
 use Rattle.grammar.specs.Tree.{Declaration}
 use Rattle.grammar.specs.Grammar.{Element, element, Remark, ends, no_dash, one_dash, Items, no_more, a_space, a_comment, a_declaration}
@@ -12,8 +8,7 @@ use Rattle.grammar.proofs.Pieces.{clash, off, apart, space_no_name, span_unique,
 use Rattle.grammar.proofs.OneTree.{name_no_space, spec_no_space, comment_third, element_start, element_third}
 use Rattle.scan.specs.Steps.Readers.{BlanksRead}
 use Rattle.scan.proofs.Agreeing.{span_le}
-use Rattle.names.specs.declared.walk.Next.{Next}
-use Rattle.names.specs.declared.walk.Next.TheVariants.{Declared, End}
+use Rattle.names.specs.declared.walk.Declared.{Declared}
 use Rattle.names.specs.Steps.Walk.{DeclaredAt, NextOf, none_left, Moved, NextRead}
 use Rattle.names.specs.Steps.Pieces.{NameEnd, RemarkRead, ElementRead}
 use Rattle.names.proofs.Spans.{literal_end, name_span, ends_there}
@@ -40,7 +35,7 @@ remark_one h (no_dash o r) = r
 remark_one h (one_dash i o r) = absurd (h i)
 
 -- items
-pub items_over : {t : List ℕ} {a : ℕ} {ds : List Declaration} → length t ≤ a → Items t a ds → NextOf t ds End
+pub items_over : {t : List ℕ} {a : ℕ} {ds : List Declaration} → length t ≤ a → Items t a ds → NextOf t ds None
 items_over l (no_more e) = none_left
 items_over l (a_space o r) = absurd (omega (arith, o.within))
 items_over l (a_comment c r) = absurd (omega (arith, (literal_start c.open_it).within))
@@ -64,7 +59,7 @@ items_comment {t} {a} f g x (a_declaration d r) =
     let q : a + 2 ≡ suc (suc a) = omega arith in
     absurd (let y = clash (rw q at g) (element_third d) in omega arith)
 
-items_declared : {t : List ℕ} {a : ℕ} {ds : List Declaration} (r : Next) → a < length t → ¬ Of is_space t a → ¬ Byte t (a + 2) (code "-")
+items_declared : {t : List ℕ} {a : ℕ} {ds : List Declaration} (r : Option Declared) → a < length t → ¬ Of is_space t a → ¬ Byte t (a + 2) (code "-")
     → ElementRead t a r → Items t a ds → NextOf t ds r
 items_declared n l f g x (no_more e) = absurd (omega arith)
 items_declared n l f g x (a_space o r) = absurd (f o)
@@ -98,11 +93,11 @@ element_at {t} {a} {name = name} {e = e} {body = body} x y z (element {b = b} {c
       rest = r;
     }
 
-moved_on : (t : List ℕ) {a b : ℕ} (r : Next) → a ≤ b → Moved t b r → Moved t a r
-moved_on t End l m = tt
-moved_on t (Declared name body) l m = (omega (arith, m.0), m.1)
+moved_on : (t : List ℕ) {a b : ℕ} (r : Option Declared) → a ≤ b → Moved t b r → Moved t a r
+moved_on t None l m = tt
+moved_on t (Some p) l m = (omega (arith, m.0), m.1)
 
 -- the item found from a on is a declaration
-pub next_declared : {t : List ℕ} {a b : ℕ} {r : Next} → a ≤ b → ((ds : List Declaration) → Items t a ds → Items t b ds) → b < length t
+pub next_declared : {t : List ℕ} {a b : ℕ} {r : Option Declared} → a ≤ b → ((ds : List Declaration) → Items t a ds → Items t b ds) → b < length t
     → ¬ Of is_space t b → ¬ Byte t (b + 2) (code "-") → ElementRead t b r → NextRead t a r
 next_declared {t} {r = r} l h w f g x = record { of = λ ds y. items_declared r w f g x (h ds y); moved = moved_on t r l x.moved }

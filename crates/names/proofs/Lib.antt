@@ -8,7 +8,6 @@ pub mod Contents
 pub mod Orders
 pub mod Runs
 pub mod Numbered
-pub mod Shifting
 pub mod Finding
 pub mod Entering
 pub mod Gone

@@ -1,9 +1,5 @@
 -- Elements of a list by their place, passed and left in a walk along it. Assumes nothing.
-use Prim.Native.Nat.{ℕ, suc, ◌+◌, ◌<◌}
-use mathlib.Core.Path.{◌≡◌, refl}
-use mathlib.Core.List.{List, ◌∷◌}
-use native.Mathlib.Omega.{arith}
-use lib.ListN.{length}
+use Rattle.std.proofs.Common.{ℕ, suc, ◌+◌, ◌<◌, ◌≡◌, refl, List, ◌∷◌, arith, length}
 use Rattle.grammar.specs.Tree.{Nth, first, later}
 
 pub nth_below : {A : Type 0} {l : List A} {i : ℕ} {a : A} → Nth l i a → i < length l

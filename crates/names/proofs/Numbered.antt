@@ -1,11 +1,5 @@
 -- The number of a name is the first declaration's with that name. Assumes nothing.
-use Prim.Native.Nat.{ℕ, suc, ◌≤◌, ◌<◌}
-use mathlib.Core.Path.{◌≡◌, refl, sym, ap}
-use mathlib.Core.Logic.{◌≢◌}
-use mathlib.Core.Bool.{Bool, true, false, cond}
-use mathlib.Core.List.{List, [], ◌∷◌}
-use native.Mathlib.Omega.{arith}
-use lib.ListN.{length}
+use Rattle.std.proofs.Common.{ℕ, suc, ◌≤◌, ◌<◌, ◌≡◌, refl, sym, ap, ◌≢◌, Bool, true, false, cond, List, [], ◌∷◌, arith, length}
 use Rattle.grammar.specs.Tree.{Declaration, Nth, first, later}
 use Rattle.model.specs.Tables.{same_name, number_in, number_of}
 use Rattle.model.proofs.Numbers.{same_itself, same_is}

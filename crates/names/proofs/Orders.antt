@@ -1,9 +1,5 @@
 -- Names stand in a line: of two one stands up to the other, and of two that stand up to each other both are one. Assumes nothing.
-use Prim.Native.Nat.{ℕ, ◌≤◌, ◌<◌}
-use mathlib.Core.Path.{◌≡◌, refl, ap}
-use mathlib.Core.Logic.{◌≢◌, ◌⊎◌, inl, inr}
-use mathlib.Core.List.{List, [], ◌∷◌}
-use native.Mathlib.Omega.{arith}
+use Rattle.std.proofs.Common.{ℕ, ◌≤◌, ◌<◌, ◌≡◌, refl, ap, ◌≢◌, ◌⊎◌, inl, inr, List, [], ◌∷◌, arith}
 use Rattle.grammar.proofs.Stopping.{le_or_lt}
 use Rattle.names.specs.Steps.Order.{Upto, ends, lower, alike}
 

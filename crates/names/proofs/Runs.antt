@@ -1,12 +1,5 @@
 -- Two names are compared byte by byte, up to the first that differs or the end of one. Assumes nothing.
-use Prim.Native.Nat.{ℕ, suc, ◌≤◌, ◌<◌}
-use mathlib.Core.Path.{◌≡◌, refl, sym, ◌∙◌, ap}
-use mathlib.Core.Bool.{Bool, true, false}
-use mathlib.Core.List.{List, [], ◌∷◌}
-use native.Mathlib.Omega.{arith}
-use lib.Dec.{ltb}
-use lib.ListN.{length, get_or}
-use borrow.Author.Tests.{ltb-true, ltb-false}
+use Rattle.std.proofs.Common.{ℕ, suc, ◌≤◌, ◌<◌, ◌≡◌, refl, sym, ◌∙◌, ap, Bool, true, false, List, [], ◌∷◌, arith, ltb, length, get_or, ltb-true, ltb-false}
 use lib.Seq.{slice, slice_empty, slice-cons}
 use Rattle.grammar.specs.Bytes.{is_name_byte, Byte, Of, Span, stop, go_on}
 use Rattle.scan.specs.Steps.Readers.{Tells}

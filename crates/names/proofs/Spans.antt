@@ -1,10 +1,5 @@
 -- Spans, words and names up to where they end. Assumes nothing.
-use Prim.Native.Nat.{ℕ, ◌+◌}
-use mathlib.Core.Path.{◌≡◌, ◌∙◌, ap}
-use mathlib.Core.Bool.{Bool, true}
-use mathlib.Core.List.{List, [], ◌∷◌}
-use native.Mathlib.Omega.{arith}
-use lib.ListN.{length}
+use Rattle.std.proofs.Common.{ℕ, ◌+◌, ◌≡◌, ◌∙◌, ap, Bool, true, List, [], ◌∷◌, arith, length}
 use Rattle.grammar.specs.Bytes.{is_name_start, is_name_byte, Of, Span, stop, go_on, Literal, done, byte}
 use Rattle.grammar.specs.Grammar.{Name}
 use Rattle.grammar.proofs.Pieces.{span_unique}

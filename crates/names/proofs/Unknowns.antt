@@ -1,18 +1,13 @@
 -- The names that a content uses, gone through one by one: the first that is never declared is the lowest. Assumes nothing.
-use Prim.Native.Nat.{ℕ, suc, ◌≤◌, ◌<◌}
+use Rattle.std.proofs.Common.{ℕ, suc, ◌≤◌, ◌<◌, ◌≡◌, refl, List, [], ◌∷◌, arith, length}
 use Prim.Native.Char.{code}
-use mathlib.Core.Path.{◌≡◌, refl}
-use mathlib.Core.List.{List, [], ◌∷◌}
-use native.Mathlib.Omega.{arith}
-use lib.ListN.{length}
 use Rattle.grammar.specs.Bytes.{is_name_start, is_name_byte, Byte, Of, Span, stop, go_on}
 use Rattle.grammar.specs.Tree.{Use, Declaration, Nth, first, later}
 use Rattle.grammar.specs.Grammar.{Name}
 use Rattle.grammar.proofs.Pieces.{off}
 use Rattle.scan.proofs.Agreeing.{span_le}
 use Rattle.model.specs.Tables.{number_of}
-use Rattle.table.specs.declared.Found.{Found}
-use Rattle.table.specs.declared.Found.TheVariants.{At, Nothing}
+use Rattle.std.proofs.Common.{Option, Some, None}
 use Rattle.names.specs.Steps.Walk.{NameAt}
 use Rattle.names.specs.Steps.Pieces.{NameEnd}
 use Rattle.names.specs.Steps.Names.{NumberRead}
@@ -22,9 +17,9 @@ use Rattle.names.proofs.Spans.{start_byte, name_span, ends_there}
 use Rattle.names.proofs.Flats.{flat_le, flat_within}
 use Rattle.names.proofs.Nths.{nth_below}
 
-pub lowest_as : {P Q : ℕ → Type 0} → ((k : ℕ) → P k → Q k) → ((k : ℕ) → Q k → P k) → (r : Found) → Lowest P r → Lowest Q r
-lowest_as f g (At k) x = (f k x.0, λ j l q. x.1 j l (g j q))
-lowest_as f g Nothing x = λ j q. x j (g j q)
+pub lowest_as : {P Q : ℕ → Type 0} → ((k : ℕ) → P k → Q k) → ((k : ℕ) → Q k → P k) → (r : Option ℕ) → Lowest P r → Lowest Q r
+lowest_as f g (Some k) x = (f k x.0, λ j l q. x.1 j l (g j q))
+lowest_as f g None x = λ j q. x j (g j q)
 
 -- a name at a place moves the reader on
 pub name_end_past : {t : List ℕ} {a e : ℕ} → Of is_name_start t a → NameEnd t a e → a < e
@@ -53,10 +48,10 @@ name_at : {t n : List ℕ} {a b : ℕ} → Name t a b n → ¬ Of is_name_byte t
 name_at {b = b} n f = record { end = b; is_name = n; over = f }
 
 module _ {t list : List ℕ} {count i : ℕ} where
-  pub unknown_over : length t ≤ i → UnknownRead t list count i Nothing
+  pub unknown_over : length t ≤ i → UnknownRead t list count i None
   unknown_over l = record { of = λ ds us c f g x. absurd (omega (arith, flat_le f, g.within)) }
 
-  pub unknown_none : Byte t i (code ">") → UnknownRead t list count i Nothing
+  pub unknown_none : Byte t i (code ">") → UnknownRead t list count i None
   unknown_none b = record { of = λ ds us c f g x. go ds us c f }
     where
       go : (ds : List Declaration) (us : List Use) (c : ℕ) → Flat t i c us → (j : ℕ) → ¬ Unknown (number_of ds) count us j
@@ -64,7 +59,7 @@ module _ {t list : List ℕ} {count i : ℕ} where
       go ds us c (no_use f g r) j x = g b
       go ds (u ∷ us) c (a_use e n f r) j x = off b refl n.start
 
-  pub unknown_skip : ¬ Byte t i (code ">") → ¬ Of is_name_start t i → (r : Found) → UnknownRead t list count (suc i) r
+  pub unknown_skip : ¬ Byte t i (code ">") → ¬ Of is_name_start t i → (r : Option ℕ) → UnknownRead t list count (suc i) r
       → UnknownRead t list count i r
   unknown_skip b o r y = record { of = λ ds us c f g x. y.of ds us c (go f g) g x }
     where
@@ -74,7 +69,7 @@ module _ {t list : List ℕ} {count i : ℕ} where
       go (a_use e n p f) g = absurd (o n.start)
 
   module _ (b : ¬ Byte t i (code ">")) (o : Of is_name_start t i) where
-    pub unknown_hit : {n : ℕ} → NumberRead t list count i n → count ≤ n → UnknownRead t list count i (At i)
+    pub unknown_hit : {n : ℕ} → NumberRead t list count i n → count ≤ n → UnknownRead t list count i (Some i)
     unknown_hit {n} m l = record { of = λ ds us c f g x. (go ds f g x, λ j h y. omega (arith, low f y)) }
       where
         go : {us : List Use} {c : ℕ} (ds : List Declaration) → Flat t i c us → Byte t c (code ">") → Counted t ds list count
@@ -88,7 +83,7 @@ module _ {t list : List ℕ} {count i : ℕ} where
         low : {us : List Use} {c j : ℕ} {number : List ℕ → ℕ} → Flat t i c us → Unknown number count us j → i ≤ j
         low f y = omega (arith, (flat_within f y.there).0, y.is)
 
-    pub unknown_past : {n e : ℕ} → NumberRead t list count i n → n < count → NameEnd t i e → (r : Found) → UnknownRead t list count e r
+    pub unknown_past : {n e : ℕ} → NumberRead t list count i n → n < count → NameEnd t i e → (r : Option ℕ) → UnknownRead t list count e r
         → UnknownRead t list count i r
     unknown_past {n} {e} m l w r y = record { of = λ ds us c f g x. go ds f g x }
       where

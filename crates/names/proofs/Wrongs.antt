@@ -1,11 +1,6 @@
 -- A name is misnamed exactly if its number says so; those of later declarations stand further on, so the first found is the lowest. Assumes
 -- nothing.
-use Prim.Native.Nat.{ℕ, suc, ◌≤◌, ◌<◌}
-use mathlib.Core.Path.{◌≡◌}
-use mathlib.Core.Logic.{◌⊎◌, inl, inr}
-use mathlib.Core.List.{List, ◌∷◌}
-use native.Mathlib.Omega.{arith}
-use lib.ListN.{length}
+use Rattle.std.proofs.Common.{ℕ, suc, ◌≤◌, ◌<◌, ◌≡◌, ◌⊎◌, inl, inr, List, ◌∷◌, arith, length}
 use Rattle.grammar.specs.Tree.{Declaration, Nth, first, later, uses_of}
 use Rattle.grammar.specs.Grammar.{no_more, Element, element, Remark, ends, no_dash, one_dash, Items, a_space, a_comment, a_declaration}
 use Rattle.grammar.proofs.Stopping.{le_or_lt}
@@ -13,8 +8,7 @@ use Rattle.scan.proofs.Agreeing.{span_le, literal_le}
 use Rattle.model.specs.Names.{Misnamed}
 use Rattle.model.specs.Tables.{number_of}
 use Rattle.model.proofs.Numbers.{number_below}
-use Rattle.table.specs.declared.Found.{Found}
-use Rattle.table.specs.declared.Found.TheVariants.{At, Nothing}
+use Rattle.std.proofs.Common.{Option, Some, None}
 use Rattle.names.specs.Steps.Walk.{DeclaredAt}
 use Rattle.names.specs.Steps.Uses.{UsesRead}
 use Rattle.names.specs.Steps.Names.{Listed, NumberRead, FirstMisnamed}
@@ -31,7 +25,7 @@ counted e l x = record { size = e; few = l; listed = x }
 
 -- one declaration's names
 module _ {t list : List ℕ} {count m name body n : ℕ} (x : NumberRead t list count name n) where
-  pub wrong_again : n < m → WrongRead t list count m name body (At name)
+  pub wrong_again : n < m → WrongRead t list count m name body (Some name)
   wrong_again l = record {
     of = λ ds d rest y k. (let e = x.of ds d.named k.size k.few k.listed y.named in
         (again (omega arith) y.place, λ j h w. low ds d rest y j h w));
@@ -42,7 +36,7 @@ module _ {t list : List ℕ} {count m name body n : ℕ} (x : NumberRead t list 
       low ds d rest y j h (again w e) = omega (arith, y.place)
       low ds d rest y j h (unknown u) = omega (arith, u.is, (use_within y u.index u.used u.there).0, y.before)
 
-  pub wrong_used : {e : ℕ} {r : Found} → m ≤ n → UsesRead t body e → UnknownRead t list count e r → WrongRead t list count m name body r
+  pub wrong_used : {e : ℕ} {r : Option ℕ} → m ≤ n → UsesRead t body e → UnknownRead t list count e r → WrongRead t list count m name body r
   wrong_used {r = r} l u w = record {
     of = λ ds d rest y k. (let e = x.of ds d.named k.size k.few k.listed y.named in
         lowest_as (λ j. unknown) (only ds d (omega arith)) r (w.of ds (uses_of d.content) y.close (u.of d rest name y) y.ends k));
@@ -148,10 +142,10 @@ right_start = record { none = λ i k d n h. absurd (omega arith) }
 module _ {t list : List ℕ} {ds : List Declaration} {m name body count : ℕ} (s : Stepped t ds m name body) (x : Right ds m)
     (c : Counted t ds list count) where
   -- what was read of declaration m
-  read : {r : Found} → WrongRead t list count m name body r → Lowest (Wrong (number_of ds) (length ds) m s.declaration) r
+  read : {r : Option ℕ} → WrongRead t list count m name body r → Lowest (Wrong (number_of ds) (length ds) m s.declaration) r
   read {r} w = rw c.size (w.of ds s.declaration s.rest s.there c)
 
-  pub right_more : WrongRead t list count m name body Nothing → Right ds (suc m)
+  pub right_more : WrongRead t list count m name body None → Right ds (suc m)
   right_more y = record { none = λ i k d n h. go i k d h (left_where s.left n) n }
     where
       go : (i k : ℕ) (d : Declaration) → i < suc m → Where (s.declaration ∷ s.rest) m i d → Nth ds i d → ¬ Wrong (number_of ds) (length ds) i d k
@@ -159,7 +153,7 @@ module _ {t list : List ℕ} {ds : List Declaration} {m name body count : ℕ} (
       go i k d h (is_left e first) n w = let q : i ≡ m = omega arith in read y k (rw q at w)
       go i k d h (is_left e (later o)) n w = omega arith
 
-  pub right_found : {k : ℕ} → WrongRead t list count m name body (At k) → FirstMisnamed ds (At k)
+  pub right_found : {k : ℕ} → WrongRead t list count m name body (Some k) → FirstMisnamed ds (Some k)
   right_found {k} y = (
     wrong_misnamed (left_first s.left) (read y).0,
     λ j l z.
@@ -171,5 +165,5 @@ module _ {t list : List ℕ} {ds : List Declaration} {m name body count : ℕ} (
       go j l i d (is_left e first) n w = let q : i ≡ m = omega arith in (read y).1 j l (rw q at w)
       go j l i d (is_left e (later o)) n w = omega (arith, wrong_before s.there (read y).0, items_from s.there.rest o w)
 
-pub right_all : {ds : List Declaration} {m : ℕ} → m ≡ length ds → Right ds m → FirstMisnamed ds Nothing
+pub right_all : {ds : List Declaration} {m : ℕ} → m ≡ length ds → Right ds m → FirstMisnamed ds None
 right_all e x j z = let b = misnamed_wrong z in x.none b.index j b.declaration b.there (omega (arith, nth_below b.there)) b.wrong

@@ -10,8 +10,7 @@ pub mod walk;
 
 use list::enter;
 use misnamed::first_wrong;
-use table::Found;
-use walk::{Next, declaration_from, place_behind};
+use walk::{Declared, declaration_from, place_behind};
 
 // Lists the first 256 declared names, and answers how many there are.
 pub fn collect(s: &[u8], list: &mut [u16; 512]) -> usize
@@ -20,34 +19,28 @@ pub fn collect(s: &[u8], list: &mut [u16; 512]) -> usize
 {
     let mut at = 0;
     let mut count = 0;
-    loop {
-        match declaration_from(s, at) {
-            Next::Declared(name, body) => {
-                enter(s, list, count, name);
-                at = place_behind(s, at, body);
-                count += 1;
-            }
-            Next::End => return count,
-        }
+    // A while: declarations have any length.
+    while let Some(Declared { name, body }) = declaration_from(s, at) {
+        enter(s, list, count, name);
+        at = place_behind(s, at, body);
+        count += 1;
     }
+    count
 }
 
 // The first name that is declared before, or used and never declared.
-pub fn first_misnamed(s: &[u8], list: &[u16; 512], count: usize) -> Found
+pub fn first_misnamed(s: &[u8], list: &[u16; 512], count: usize) -> Option<usize>
     ensures { MisnamedRead s.now list.now count result }
 {
     let mut at = 0;
     let mut m = 0;
-    loop {
-        match declaration_from(s, at) {
-            Next::Declared(name, body) => match first_wrong(s, list, count, m, name, body) {
-                Found::At(k) => return Found::At(k),
-                Found::Nothing => {
-                    at = place_behind(s, at, body);
-                    m += 1;
-                }
-            },
-            Next::End => return Found::Nothing,
+    // A while: declarations have any length.
+    while let Some(Declared { name, body }) = declaration_from(s, at) {
+        if let Some(k) = first_wrong(s, list, count, m, name, body) {
+            return Some(k);
         }
+        at = place_behind(s, at, body);
+        m += 1;
     }
+    None
 }

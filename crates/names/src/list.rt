@@ -8,24 +8,21 @@ ghost use Rattle.names.specs.Steps.Names.{RankRead, BeforeRead, NumberRead, Ente
 ghost use Rattle.names.specs.Steps.Shifting.{Shifted};
 
 use scan::bytes::{Class, is, is_of};
-use table::words::{lesser, word_at};
+use table::words::word_at;
 
 // The name at a is that at b, or stands before it.
 fn upto(s: &[u8], a: usize, b: usize) -> bool
     ensures { (n m : List ℕ) → NameAt s.now a n → NameAt s.now b m → Tells (Upto n m) result }
 {
-    let mut i = a;
     let mut j = b;
-    while is_of(s, i, Class::Name) {
-        if is(s, j, s[i]) {
-            i += 1;
-            j += 1;
-        } else {
-            if is_of(s, j, Class::Name) {
-                return s[i] < s[j];
-            }
-            return false;
+    for i in a..s.len() {
+        if !is_of(s, i, Class::Name) {
+            return true;
         }
+        if !is(s, j, s[i]) {
+            return is_of(s, j, Class::Name) && s[i] < s[j];
+        }
+        j += 1;
     }
     true
 }
@@ -37,6 +34,7 @@ fn rank(s: &[u8], list: &[u16; 512], size: usize, at: usize) -> usize
 {
     let mut low = 0;
     let mut high = size;
+    // A while: half of what is left is passed at once.
     while low < high {
         let mid = low + (high - low) / 2;
         if upto(s, word_at(list, 2 * mid), at) {
@@ -66,7 +64,7 @@ fn number_before(s: &[u8], list: &[u16; 512], k: usize, at: usize, none: usize) 
 pub fn number(s: &[u8], list: &[u16; 512], count: usize, at: usize) -> usize
     ensures { NumberRead s.now list.now count at result }
 {
-    let k = rank(s, list, lesser(count, 256), at);
+    let k = rank(s, list, count.min(256), at);
     number_before(s, list, k, at, count)
 }
 
@@ -75,10 +73,8 @@ fn shift(list: &mut [u16; 512], low: usize, high: usize)
     requires { (length list.old ≡ 512) × (high ≤ 510) }
     ensures { Shifted 2 list.old list.new low high }
 {
-    let mut i = high;
-    while i > low {
-        i -= 1;
-        list[i + 2] = list[i];
+    if low < high {
+        list.copy_within(low..high, low + 2);
     }
 }
 
@@ -87,10 +83,7 @@ pub(crate) fn enter(s: &[u8], list: &mut [u16; 512], count: usize, at: usize)
     requires { length list.old ≡ 512 }
     ensures { Entered s.now list.old count at list.new }
 {
-    if 255 < count {
-        return;
-    }
-    if 65535 < at {
+    if count > 255 || at > 65535 {
         return;
     }
     let k = rank(s, list, count, at);

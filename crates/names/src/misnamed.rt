@@ -7,7 +7,6 @@ use crate::list::number;
 use crate::walk::name_end;
 use scan::bytes::{Class, is, is_of};
 use scan::piece::blanks;
-use table::Found;
 
 // The place from which on every name in the content at a place is one that it uses: behind EMPTY, ANY and #PCDATA.
 fn first_use(s: &[u8], body: usize) -> usize
@@ -25,25 +24,26 @@ fn first_use(s: &[u8], body: usize) -> usize
 }
 
 // The first name up to '>' that is never declared.
-fn first_unknown(s: &[u8], list: &[u16; 512], count: usize, at: usize) -> Found
+fn first_unknown(s: &[u8], list: &[u16; 512], count: usize, at: usize) -> Option<usize>
     ensures { UnknownRead s.now list.now count at result }
 {
     let mut i = at;
+    // A while: a name is passed as a whole.
     while i < s.len() {
         if is(s, i, b'>') {
-            return Found::Nothing;
+            return None;
         }
         if is_of(s, i, Class::Start) {
             if number(s, list, count, i) < count {
                 i = name_end(s, i);
             } else {
-                return Found::At(i);
+                return Some(i);
             }
         } else {
             i += 1;
         }
     }
-    Found::Nothing
+    None
 }
 
 // The first name of declaration m that is declared before, or used and never declared.
@@ -54,12 +54,12 @@ pub(crate) fn first_wrong(
     m: usize,
     name: usize,
     body: usize,
-) -> Found
+) -> Option<usize>
     requires { body ≤ length s.now }
     ensures { WrongRead s.now list.now count m name body result }
 {
     if number(s, list, count, name) < m {
-        return Found::At(name);
+        return Some(name);
     }
     first_unknown(s, list, count, first_use(s, body))
 }

@@ -7,11 +7,11 @@ ghost use Rattle.names.specs.Steps.Pieces.{NameEnd, RemarkRead, ElementRead};
 use scan::bytes::{Class, is, is_of};
 use scan::piece::blanks;
 
-// A declaration, with the places of its name and of its content; or none is left.
-#[derive(Clone, Copy)]
-pub enum Next {
-    Declared(usize, usize),
-    End,
+// A declaration: the places of its name and of its content.
+#[derive(Clone, Copy, PartialEq, Eq)]
+pub struct Declared {
+    pub name: usize,
+    pub body: usize,
 }
 
 #[derive(Clone, Copy)]
@@ -24,11 +24,12 @@ pub struct Reader<'a> {
 pub fn name_end(s: &[u8], at: usize) -> usize
     ensures { NameEnd s.now at result }
 {
-    let mut i = at;
-    while is_of(s, i, Class::Name) {
-        i += 1;
+    for i in at..s.len() {
+        if !is_of(s, i, Class::Name) {
+            return i;
+        }
     }
-    i
+    at.max(s.len())
 }
 
 // The place behind a comment, from behind its '<!--' on.
@@ -36,6 +37,7 @@ fn remark_end(s: &[u8], at: usize) -> usize
     ensures { RemarkRead s.now at result }
 {
     let mut i = at;
+    // A while: a '-' and the byte behind it are passed at once.
     while i < s.len() {
         if is(s, i, b'-') {
             if is(s, i + 1, b'-') {
@@ -49,54 +51,51 @@ fn remark_end(s: &[u8], at: usize) -> usize
     i
 }
 
-// The declaration at a place.
-fn declared_at(s: &[u8], at: usize) -> Next
+// The declaration at a place, if the text is long enough.
+fn declared_at(s: &[u8], at: usize) -> Option<Declared>
     requires { at ≤ length s.now }
     ensures { ElementRead s.now at result }
 {
     if s.len() < at + 9 {
-        return Next::End;
+        return None;
     }
     let name = blanks(s, at + 9);
     let body = blanks(s, name_end(s, name));
-    Next::Declared(name, body)
+    Some(Declared { name, body })
 }
 
-// The first declaration from a place on.
-fn next_at(s: &[u8], at: usize) -> Next
+// The first declaration from a place on, if one is left.
+fn next_at(s: &[u8], at: usize) -> Option<Declared>
     ensures { NextRead s.now at result }
 {
     let mut i = at;
+    // A while: comments have any length.
     while i < s.len() {
         if is_of(s, i, Class::Space) {
             i += 1;
+        } else if is(s, i + 2, b'-') {
+            i = remark_end(s, i + 4);
         } else {
-            if is(s, i + 2, b'-') {
-                i = remark_end(s, i + 4);
-            } else {
-                return declared_at(s, i);
-            }
+            return declared_at(s, i);
         }
     }
-    Next::End
+    None
 }
 
 // The place behind the declaration whose content stands at a place.
 fn behind_at(s: &[u8], body: usize) -> usize
     ensures { BehindRead s.now body result }
 {
-    let mut i = body;
-    while i < s.len() {
-        if is(s, i, b'>') {
+    for i in body..s.len() {
+        if s[i] == b'>' {
             return i + 1;
         }
-        i += 1;
     }
-    i
+    body.max(s.len())
 }
 
 // The first declaration from the reader's place on.
-pub fn next_declaration<'a>(r: Reader<'a>) -> Next
+pub fn next_declaration<'a>(r: Reader<'a>) -> Option<Declared>
     ensures { NextRead r.entry.text.now r.entry.at result }
 {
     next_at(r.text, r.at)
@@ -111,7 +110,7 @@ pub fn behind<'a>(r: Reader<'a>, body: usize) -> Reader<'a>
 }
 
 // The first declaration from a place on, by a reader there: a loop passes the text and the place, and makes a reader for each declaration.
-pub fn declaration_from(s: &[u8], at: usize) -> Next
+pub fn declaration_from(s: &[u8], at: usize) -> Option<Declared>
     ensures { NextRead s.now at result }
 {
     next_declaration(Reader { text: s, at })

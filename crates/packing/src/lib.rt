@@ -7,15 +7,16 @@ ghost use Rattle.packing.specs.Bytes.{Packed, PutTable, refusal_line};
 
 use std::io;
 use std::io::Write;
-use table::words::{lesser, word_at};
+use table::words::word_at;
 
 // Writes a word as two bytes.
 fn put_word(word: u16, at: usize, bytes: &mut [u8])
     requires { at + 1 < length bytes.old }
     ensures { bytes.new ≡ set (set bytes.old at (word % 256)) (at + 1) (word / 256) }
 {
-    bytes[at] = (word % 256) as u8;
-    bytes[at + 1] = (word / 256) as u8;
+    let [low, high] = word.to_le_bytes();
+    bytes[at] = low;
+    bytes[at + 1] = high;
 }
 
 // Writes words as bytes.
@@ -23,10 +24,8 @@ pub fn pack(words: &[u16], bytes: &mut [u8])
     requires { 2 * length words.now ≤ length bytes.old }
     ensures { Packed words.now (length words.now) bytes.new }
 {
-    let mut k = 0;
-    while k < words.len() {
-        put_word(words[k], 2 * k, bytes);
-        k += 1;
+    for (k, word) in words.iter().enumerate() {
+        put_word(*word, 2 * k, bytes);
     }
 }
 
@@ -34,7 +33,7 @@ pub fn pack(words: &[u16], bytes: &mut [u8])
 pub fn words_of(words: &[u16; 1800]) -> usize
     ensures { result ≡ min (get_or words.now 1 0) 1800 }
 {
-    lesser(word_at(words, 1), 1800)
+    word_at(words, 1).min(1800)
 }
 
 // Writes a table.

@@ -55,9 +55,6 @@ byte_of_lem x l = byte_digits (λ j. x / 2 ^ j % 2) ∙ digits_of 8 x l
 pub byte_bit : (b : ℕ → ℕ) → ((j : ℕ) → b j < 2) → (j : ℕ) → j < 8 → byte_of b / 2 ^ j % 2 ≡ b j
 byte_bit b few j l = ap (λ (x : ℕ). x / 2 ^ j % 2) (byte_digits b) ∙ digits_bit 8 b few j l
 
-pub byte_few : (b : ℕ → ℕ) → ((j : ℕ) → b j < 2) → byte_of b < 256
-byte_few b few = rw (byte_digits b) (digits_few 8 b few)
-
 -- bits that are the same make the same byte
 pub byte_same : (b c : ℕ → ℕ) → ((j : ℕ) → j < 8 → b j ≡ c j) → byte_of b ≡ byte_of c
 byte_same b c e = byte_digits b ∙ digits_same 8 b c e ∙ sym (byte_digits c)

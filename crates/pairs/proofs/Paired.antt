@@ -9,16 +9,19 @@ use native.Mathlib.Decide.{ℕ_discrete}
 use native.Mathlib.Omega.{arith}
 use lib.Bits.{bit_and}
 use borrow.Author.Tests.{eq-eqb}
-use lib.Dec.{eqb, leb}
 use lib.ListN.{length, get_or, get_or-eq_default}
 use lib.Pow.{shr-shr, shr_lt}
 use Rattle.table.specs.Privilege.{privileges}
 use Rattle.table.specs.Steps.Found.{Tells}
 use Rattle.table.proofs.Lists.{le_or_lt}
-use Rattle.table.proofs.Lowest.{tells_eq, tells_le}
 use Rattle.table.proofs.Answers.{answer_one, accepted_answer, lowest_one}
 use Rattle.policy.proofs.Bits.{none_shared}
-use Rattle.pairs.specs.Maps.{Maps, maps, IsSet, bytes_for, Sized, Apart, Spare, Paired, Unpaired, length_off, both_set, spare_set, MapPolicy, NoMaps, table, pair, Roomy}
+use Rattle.std.specs.Prelude.{Err}
+use Rattle.table.specs.Refusals.{number_of, place_of}
+use Rattle.pairs.specs.declared.check.PairFault.{PairFault}
+use Rattle.pairs.specs.declared.check.PairFault.TheVariants.{Length, Both, SpareBit}
+use Rattle.pairs.specs.Faults.{refusal_of, proposed_refusal, fault_number, fault_place}
+use Rattle.pairs.specs.Maps.{Maps, maps, bytes_for, Apart, Spare, Paired, Unpaired, length_off, both_set, spare_set, MapPolicy, NoMaps, table, pair}
 use Rattle.pairs.specs.Steps.Checking.{PairAnswer, unpaired, paired, MapsAnswer, refused, fits}
 
 -- flags of two things
@@ -31,20 +34,6 @@ pub tells_either : (P Q : Type 0) (p q : Bool) → Tells P p → Tells Q q → T
 tells_either P Q true q a b = inl a
 tells_either P Q false true a b = inr b
 tells_either P Q false false a b = λ r. elim r [ inl x ↦ a x | inr y ↦ b y ]
-
--- both lengths
-pub sized_told : (v : ℕ) (a f : List ℕ) → Tells (Sized v (maps a f)) (eqb (length a) (bytes_for v) && eqb (length f) (bytes_for v))
-sized_told v a f = tells_both (length a ≡ bytes_for v) (length f ≡ bytes_for v) (Sized v (maps a f)) (λ x y. record { allowed = x; forbidden = y })
-    (λ r. (r.allowed, r.forbidden)) (eqb (length a) (bytes_for v)) (eqb (length f) (bytes_for v)) (tells_eq (length a) (bytes_for v)) (tells_eq (length f) (bytes_for v))
-
-pub roomy_told : (v : ℕ) (a f : List ℕ) → Tells (Roomy v (maps a f)) (leb (bytes_for v) (length a) && leb (bytes_for v) (length f))
-roomy_told v a f = tells_both (bytes_for v ≤ length a) (bytes_for v ≤ length f) (Roomy v (maps a f)) (λ x y. record { allowed = x; forbidden = y })
-    (λ r. (r.allowed, r.forbidden)) (leb (bytes_for v) (length a)) (leb (bytes_for v) (length f)) (tells_le (bytes_for v) (length a)) (tells_le (bytes_for v) (length f))
-
--- two bits, both set
-pub both_told : (m : Maps) (p : ℕ) (a f : Bool) → Tells (IsSet m.allowed p) a → Tells (IsSet m.forbidden p) f
-    → Tells (IsSet m.allowed p × IsSet m.forbidden p) (a && f)
-both_told m p a f = tells_both (IsSet m.allowed p) (IsSet m.forbidden p) (IsSet m.allowed p × IsSet m.forbidden p) (λ x y. (x, y)) (λ r. r) a f
 
 -- bytes that share no bit have no privilege with both
 pub none_both : (v : ℕ) (a f : List ℕ) → ((k : ℕ) → k < length a → bit_and (get_or a k 0) (get_or f k 0) ≡ 0) → (p : ℕ) → p < v → Apart (maps a f) p
@@ -77,15 +66,7 @@ module _ {v : ℕ} {map : List ℕ} (size : length map ≡ bytes_for v) where
       go (inl l) = absurd (none (get_or-eq_default map 0 l))
       go (inr l) = omega (arith, s.behind)
 
-  -- a map of whole bytes has no spare bit
-  pub spare_whole : v % 8 ≡ 0 → ¬ Spare v map
-  spare_whole e s = go (le_or_lt (length map) (s.at / 8))
-    where
-      go : (length map ≤ s.at / 8) ⊎ (s.at / 8 < length map) → ⊥
-      go (inl l) = omega (arith, s.is, ap (λ (x : ℕ). x / 2 ^ (s.at % 8) % 2) (get_or-eq_default map 0 l), zero-div (2 ^ (s.at % 8)))
-      go (inr l) = omega (arith, s.behind)
-
-  -- else they are those of the last byte from the privileges' own on
+  -- the spare bits are those of the last byte from the privileges' own on
   pub spare_out : Spare v map → get_or map (v / 8) 0 / 2 ^ (v % 8) ≢ 0
   spare_out s e =
       let at = spare_last s in
@@ -138,6 +119,20 @@ module _ {off both spare v : ℕ} {m : Maps} where
   pub pair_fits : {n p : ℕ} → off ≢ 0 → both ≢ 0 → spare ≢ 0 → n ≡ 0 → PairAnswer off both spare v m n p → Paired v m
   pair_fits f g h e (unpaired u) = absurd (unpaired_number f g h u e)
   pair_fits f g h e (paired w q z) = w
+
+-- what is wrong with a policy's own pair, and with a proposed one, by the refusal
+module _ {v : ℕ} {m : Maps} where
+  pub fault_refused : (f : PairFault) → PairAnswer 10 23 24 v m (fault_number {A = ℕ} 10 23 24 (Err f)) (fault_place {A = ℕ} (Err f))
+      → Unpaired 10 23 24 v m (number_of (refusal_of f)) (place_of (refusal_of f))
+  fault_refused Length a = pair_refused (omega arith) a
+  fault_refused (Both p) a = pair_refused (omega arith) a
+  fault_refused SpareBit a = pair_refused (omega arith) a
+
+  pub proposed_refused : (f : PairFault) → PairAnswer 13 14 14 v m (fault_number {A = ℕ} 13 14 14 (Err f)) (fault_place {A = ℕ} (Err f))
+      → Unpaired 13 14 14 v m (number_of (proposed_refusal f)) (place_of (proposed_refusal f))
+  proposed_refused Length a = pair_refused (omega arith) a
+  proposed_refused (Both p) a = pair_refused (omega arith) a
+  proposed_refused SpareBit a = pair_refused (omega arith) a
 
 module _ {ws : List ℕ} {m : Maps} where
   -- a policy is not refused

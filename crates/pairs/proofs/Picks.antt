@@ -13,8 +13,6 @@ use Rattle.table.specs.Steps.Found.{Tells}
 use Rattle.table.proofs.HowMany.{many_next, many_skip}
 use Rattle.table.proofs.Lowest.{tells_eq_as}
 use Rattle.policy.specs.Steps.Squares.{Flags, on, off}
-use Rattle.policy.proofs.Bits.{bit_read}
-use Rattle.policy.proofs.SquareLaws.{flags_tell}
 use Rattle.pairs.specs.Steps.Changing.{bit_in, ChangedIn, OtherIn, Picked}
 use Rattle.pairs.proofs.Bytes.{byte_of_lem, byte_same}
 
@@ -107,9 +105,6 @@ module _ {P : ℕ → Type 0} {r : ℕ} (c : Picked P r) where
   picked_none = tells_eq_as ((j : ℕ) → j < 8 → ¬ P j) r 0
       (λ e j l. off_none (c.tells j l) (rw e (ap (λ (x : ℕ). x % 2) (zero-div (2 ^ j)))))
       (λ d. sym (byte_of_lem r c.fits) ∙ byte_same (bit_in r) (λ j. 0) (λ j l. none_off (c.tells j l) (d j l)) ∙ refl)
-
-  pub picked_at : (j : ℕ) → j < 8 → Tells (P j) (eqb (bit_and (r / 2 ^ j) 1) 1)
-  picked_at j l = rw (bit_read r j) (flags_tell (c.tells j l))
 
 moved : {P : ℕ → Type 0} {a b c d : ℕ} → a ≡ b → c ≡ d → HowMany P a c → HowMany P b d
 moved e f h = rw (← e, ← f) h

@@ -12,7 +12,7 @@ use Rattle.table.proofs.Lists.{le_or_lt}
 use Rattle.policy.specs.Marks.{Legal, Fit, Policy}
 use Rattle.policy.proofs.Tabulates.{tabulate_length, tabulate_at}
 use Rattle.pairs.specs.Maps.{Maps, bit_of, mark_of, marks_of, Sized, Apart, Paired, MapPolicy, marks_for}
-use Rattle.pairs.specs.Steps.Spelling.{ByteSpelled, Spelled, Holds}
+use Rattle.pairs.specs.Steps.Spelling.{Spelled, Holds}
 use Rattle.pairs.proofs.Bytes.{place_byte, place_bit, bit_few, bit_clear}
 
 -- the mark at place j of byte k
@@ -47,27 +47,6 @@ bits_more {a} {f} {at} {j} {mark} {old} {new} s l e = record {
     wider : (p : ℕ) → (p < at) ⊎ (at + (j + 1) ≤ p) → (p < at) ⊎ (at + j ≤ p)
     wider p (inl h) = inl h
     wider p (inr h) = inr (omega arith)
-
-pub bits_all : {a f at j : ℕ} {old new : List ℕ} → j ≡ 8 → BitsSpelled a f at j old new → ByteSpelled a f at old new
-bits_all e s = record { size = s.size; each = λ i l. s.each i (omega arith); rest = λ p l. s.rest p (rw e l) }
-
--- nothing is spelled, and one byte of each map more
-pub spelled_start : {m : Maps} {old : List ℕ} → Spelled 0 m old old
-spelled_start = record { size = refl; each = λ p l. absurd (omega arith); rest = λ p l. refl }
-
-pub spelled_more : {m : Maps} {k : ℕ} {old mid new : List ℕ} → Spelled k m old mid
-    → ByteSpelled (get_or m.allowed k 0) (get_or m.forbidden k 0) (8 * k) mid new → Spelled (k + 1) m old new
-spelled_more {m} {k} {old} {mid} {new} s b = record {
-  size = b.size ∙ s.size;
-  each = λ p l. go p l (le_or_lt (8 * k) p);
-  rest = λ p l. b.rest p (inr (omega arith)) ∙ s.rest p (omega arith);
-}
-  where
-    go : (p : ℕ) → p < 8 * (k + 1) → (8 * k ≤ p) ⊎ (p < 8 * k) → get_or new p 0 ≡ mark_of m p
-    go p l (inr h) = b.rest p (inl h) ∙ s.each p h
-    go p l (inl h) =
-        let e : p ≡ 8 * k + (p - 8 * k) = omega arith in
-        rw e (b.each (p - 8 * k) (omega arith) ∙ sym (mark_at m k (p - 8 * k) (omega arith)))
 
 -- two bits that are not both set are a mark
 mark_legal : (m : Maps) (p : ℕ) → Apart m p → mark_of m p ≤ 2

@@ -1,5 +1,5 @@
 -- The maps of marks, byte by byte, and a result with maps at its front. Assumes nothing.
-use Prim.Native.Nat.{ℕ, ◌+◌, ◌*◌, ◌/◌, ◌%◌, ◌^◌, ◌≤◌, ◌<◌}
+use Prim.Native.Nat.{ℕ, ◌+◌, ◌*◌, ◌/◌, ◌%◌, ◌^◌, ◌<◌}
 use mathlib.Core.Path.{◌≡◌, refl, sym, ap, ◌∙◌}
 use mathlib.Core.Bool.{Bool, true, false, cond}
 use mathlib.Core.List.{List, ◌++◌}
@@ -56,9 +56,6 @@ written_more {mark} {marks} {k} {byte} {old} {new} s l e = record { size = lengt
     go : (i : ℕ) → i < k + 1 → Dec (i ≡ k) → get_or (set new k byte) i 0 ≡ byte_of (λ j. is_mark mark marks (8 * i + j))
     go i h (yes q) = rw q (get_or-set_same new k byte 0 l ∙ e)
     go i h (no d) = get_or-set_other new k i byte 0 d ∙ s.each i (omega (arith, d))
-
-pub written_all : {mark : ℕ} {marks : List ℕ} {k : ℕ} {old new : List ℕ} → Written mark marks k old new → length new ≤ k → Unspelled mark marks new old
-written_all s l = record { size = s.size; each = λ i h. s.each i (omega arith) }
 
 -- the map of marks that stand at the front of a run with zeros behind them
 pub unspelled_map : {mark v : ℕ} {marks map old : List ℕ} (n : List ℕ) → length n ≡ v → length old ≡ bytes_for v → ((p : ℕ) → get_or marks p 0 ≡ get_or n p 0)

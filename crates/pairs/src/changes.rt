@@ -7,8 +7,6 @@ ghost use Rattle.proposing.specs.Proposals.{Kept, Changed};
 ghost use Rattle.pairs.specs.Maps.{maps, marks_of, Paired};
 ghost use Rattle.pairs.specs.Steps.Changing.{ChangedIn, OtherIn, OtherAt, Picked};
 
-use table::Found;
-
 // Which of eight privileges changed.
 fn changed(allowed: u8, forbidden: u8, proposed_allowed: u8, proposed_forbidden: u8) -> u8
     ensures { Picked (ChangedIn allowed forbidden proposed_allowed proposed_forbidden) result }
@@ -35,16 +33,14 @@ fn all_kept(
     ensures { Tells ((k : ℕ) → k < length allowed.now → (j : ℕ) → j < 8 → ¬ OtherAt (maps allowed.now forbidden.now) (maps proposed_allowed.now proposed_forbidden.now) k j) result }
 {
     let mut kept = true;
-    let mut k = 0;
-    while k < allowed.len() {
+    for k in 0..allowed.len() {
         let other = other_changes(
             allowed[k],
             forbidden[k],
             proposed_allowed[k],
             proposed_forbidden[k],
         );
-        kept = kept & (other == 0);
-        k += 1;
+        kept &= other == 0;
     }
     kept
 }
@@ -77,21 +73,19 @@ pub fn lowest_change(
     proposed_allowed: &[u8],
     proposed_forbidden: &[u8],
     v: usize,
-) -> Found
+) -> Option<usize>
     requires { Paired v (maps allowed.now forbidden.now) × Paired v (maps proposed_allowed.now proposed_forbidden.now) × (v ≤ 4096) }
     ensures { Lowest (Kept (marks_of v (maps allowed.now forbidden.now)) (marks_of v (maps proposed_allowed.now proposed_forbidden.now))) v result }
 {
     if all_kept(allowed, forbidden, proposed_allowed, proposed_forbidden) {
-        return Found::Nothing;
+        return None;
     }
-    let mut p = 0;
-    while p < v {
+    for p in 0..v {
         if is_other(allowed, forbidden, proposed_allowed, proposed_forbidden, p) {
-            return Found::At(p);
+            return Some(p);
         }
-        p += 1;
     }
-    Found::Nothing
+    None
 }
 
 // How many of v marks changed. Counted in 16 bits, eight bytes at a time.
@@ -106,16 +100,14 @@ pub fn count_changes(
     ensures { HowMany (Changed (marks_of v (maps allowed.now forbidden.now)) (marks_of v (maps proposed_allowed.now proposed_forbidden.now))) v result }
 {
     let mut count = 0u16;
-    let mut k = 0;
-    while k < allowed.len() {
+    for k in 0..allowed.len() {
         let more = changed(
             allowed[k],
             forbidden[k],
             proposed_allowed[k],
             proposed_forbidden[k],
         );
-        count += u8::count_ones(more) as u16;
-        k += 1;
+        count += more.count_ones() as u16;
     }
-    count as usize
+    usize::from(count)
 }

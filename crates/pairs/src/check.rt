@@ -2,10 +2,12 @@
 ghost use Rattle.std.specs.Prelude.{◌≡◌, ℕ, ◌/◌, ◌≤◌, ◌<◌, length, get_or};
 ghost use Rattle.std.specs.Int.Bits.{bit_and};
 ghost use Rattle.table.specs.Steps.Found.{Lowest, Tells};
+ghost use Rattle.table.specs.Refusals.{number_in, place_in};
 ghost use Rattle.pairs.specs.Maps.{maps, bytes_for, IsSet, Sized, Apart, Spare, Roomy};
+ghost use Rattle.pairs.specs.Faults.{refusal_of, fault_number, fault_place};
 ghost use Rattle.pairs.specs.Steps.Checking.{PairAnswer, OrderedMaps};
 
-use table::{Checked, Found, check_ordered};
+use table::{Refusal, check_ordered};
 
 // How many bytes a map of v privileges has.
 pub(crate) fn bytes_for(v: usize) -> usize
@@ -29,30 +31,26 @@ fn none_shared(allowed: &[u8], forbidden: &[u8]) -> bool
     ensures { Tells ((k : ℕ) → k < length allowed.now → bit_and (get_or allowed.now k 0) (get_or forbidden.now k 0) ≡ 0) result }
 {
     let mut none = true;
-    let mut k = 0;
-    while k < allowed.len() {
-        none = none & (allowed[k] & forbidden[k] == 0);
-        k += 1;
+    for k in 0..allowed.len() {
+        none &= allowed[k] & forbidden[k] == 0;
     }
     none
 }
 
 // The lowest of v privileges that has both bits set.
-fn lowest_both(allowed: &[u8], forbidden: &[u8], v: usize) -> Found
+fn lowest_both(allowed: &[u8], forbidden: &[u8], v: usize) -> Option<usize>
     requires { Sized v (maps allowed.now forbidden.now) × (v ≤ 4096) }
     ensures { Lowest (Apart (maps allowed.now forbidden.now)) v result }
 {
     if none_shared(allowed, forbidden) {
-        return Found::Nothing;
+        return None;
     }
-    let mut p = 0;
-    while p < v {
-        if is_set(allowed, p) & is_set(forbidden, p) {
-            return Found::At(p);
+    for p in 0..v {
+        if is_set(allowed, p) && is_set(forbidden, p) {
+            return Some(p);
         }
-        p += 1;
     }
-    Found::Nothing
+    None
 }
 
 // Is a spare bit set, one behind those of v privileges?
@@ -73,7 +71,7 @@ fn is_sized(allowed: &[u8], forbidden: &[u8], v: usize) -> bool
     ensures { Tells (Sized v (maps allowed.now forbidden.now)) result }
 {
     let bytes = bytes_for(v);
-    (allowed.len() == bytes) & (forbidden.len() == bytes)
+    allowed.len() == bytes && forbidden.len() == bytes
 }
 
 // Do both maps have room for v privileges?
@@ -82,59 +80,58 @@ pub fn is_roomy(allowed: &[u8], forbidden: &[u8], v: usize) -> bool
     ensures { Tells (Roomy v (maps allowed.now forbidden.now)) result }
 {
     let bytes = bytes_for(v);
-    (bytes <= allowed.len()) & (bytes <= forbidden.len())
+    bytes <= allowed.len() && bytes <= forbidden.len()
 }
 
-// Checks a pair of maps for v privileges: the number `off` for a length, `both` for a privilege with both bits, `spare` for a spare bit.
-pub fn check_pair(
-    allowed: &[u8],
-    forbidden: &[u8],
-    v: usize,
-    off: u8,
-    both: u8,
-    spare: u8,
-) -> Checked
+// What is wrong with a pair of maps: the length of one, a privilege with both bits set, or a spare bit that is set.
+#[derive(Clone, Copy, Debug, PartialEq, Eq)]
+pub enum PairFault {
+    Length,
+    Both(usize),
+    SpareBit,
+}
+
+impl From<PairFault> for Refusal {
+    ghost from_gives = { λ fault refusal. refusal ≡ refusal_of fault };
+
+    fn from(fault: PairFault) -> Refusal {
+        match fault {
+            PairFault::Length => Refusal::MarksLength,
+            PairFault::Both(p) => Refusal::BothSet(p),
+            PairFault::SpareBit => Refusal::SpareBit,
+        }
+    }
+}
+
+// Checks a pair of maps for v privileges: the lengths, then the bits set in both, then the spare bits.
+pub fn check_pair(allowed: &[u8], forbidden: &[u8], v: usize) -> Result<(), PairFault>
     requires { v ≤ 4096 }
-    ensures { PairAnswer off both spare v (maps allowed.now forbidden.now) result.number result.place }
+    ensures { (off both spare : ℕ) → PairAnswer off both spare v (maps allowed.now forbidden.now) (fault_number off both spare result) (fault_place result) }
 {
     if !is_sized(allowed, forbidden, v) {
-        return Checked {
-            number: off,
-            place: 0,
-        };
+        return Err(PairFault::Length);
     }
-    let found = lowest_both(allowed, forbidden, v);
-    if let Found::At(place) = found {
-        return Checked {
-            number: both,
-            place: place,
-        };
+    if let Some(p) = lowest_both(allowed, forbidden, v) {
+        return Err(PairFault::Both(p));
     }
-    if has_spare(allowed, v) | has_spare(forbidden, v) {
-        return Checked {
-            number: spare,
-            place: 0,
-        };
+    if has_spare(allowed, v) || has_spare(forbidden, v) {
+        return Err(PairFault::SpareBit);
     }
-    Checked {
-        number: 0,
-        place: 0,
-    }
+    Ok(())
 }
 
-// Checks a table, and then a pair of maps for it: 0 and V, or the first of the table's numbers, 10, 23 and 24 with its place. With 0 the order holds the
-// types, each after its children.
-pub fn check_maps(words: &[u16], allowed: &[u8], forbidden: &[u8], order: &mut [u8; 256]) -> Checked
+// Checks a table, and then a pair of maps for it: V, or the first of the table's numbers, 10, 23 and 24 with its place. With V the order holds the types,
+// each after its children.
+pub fn check_maps(
+    words: &[u16],
+    allowed: &[u8],
+    forbidden: &[u8],
+    order: &mut [u8; 256],
+) -> Result<usize, Refusal>
     requires { length order.old ≡ 256 }
-    ensures { OrderedMaps words.now (maps allowed.now forbidden.now) order.new result.number result.place }
+    ensures { OrderedMaps words.now (maps allowed.now forbidden.now) order.new (number_in result) (place_in result) }
 {
-    let table = check_ordered(words, order);
-    if table.number != 0 {
-        return table;
-    }
-    let fit = check_pair(allowed, forbidden, table.place, 10, 23, 24);
-    if fit.number != 0 {
-        return fit;
-    }
-    table
+    let v = check_ordered(words, order)?;
+    check_pair(allowed, forbidden, v)?;
+    Ok(v)
 }

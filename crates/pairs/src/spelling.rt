@@ -20,10 +20,8 @@ fn spell_byte(marks: &mut [u8; 4096], at: usize, allowed: u8, forbidden: u8)
     requires { (length marks.old ≡ 4096) × (at + 8 ≤ 4096) }
     ensures { ByteSpelled allowed forbidden at marks.old marks.new }
 {
-    let mut j = 0;
-    while j < 8 {
+    for j in 0..8 {
         marks[at + j] = bit(allowed, j) + 2 * bit(forbidden, j);
-        j += 1;
     }
 }
 
@@ -32,10 +30,8 @@ pub fn spell(allowed: &[u8], forbidden: &[u8], marks: &mut [u8; 4096])
     requires { (length marks.old ≡ 4096) × (length allowed.now ≤ 512) × (length forbidden.now ≡ length allowed.now) }
     ensures { Spelled (length allowed.now) (maps allowed.now forbidden.now) marks.old marks.new }
 {
-    let mut k = 0;
-    while k < allowed.len() {
+    for k in 0..allowed.len() {
         spell_byte(marks, 8 * k, allowed[k], forbidden[k]);
-        k += 1;
     }
 }
 
@@ -44,12 +40,10 @@ fn unspell(marks: &[u8], allowed: &mut [u8], forbidden: &mut [u8])
     requires { (length marks.now ≡ 4096) × ((p : ℕ) → p < 4096 → Legal marks.now p) × (length allowed.old ≤ 512) × (length forbidden.old ≡ length allowed.old) }
     ensures { Unspelled 1 marks.now allowed.new allowed.old × Unspelled 2 marks.now forbidden.new forbidden.old }
 {
-    let mut k = 0;
-    while k < allowed.len() {
+    for k in 0..allowed.len() {
         let marked = eight(marks, 8 * k);
         allowed[k] = gathered(marked) as u8;
         forbidden[k] = gathered(marked / 2) as u8;
-        k += 1;
     }
 }
 

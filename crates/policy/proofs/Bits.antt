@@ -213,19 +213,11 @@ pub record RowFrom (P : ℕ → Type 0) (n j row : ℕ) : Type 0 where
   pub fits : row < 2 ^ (n - j)
   pub tells : (b : ℕ) → j + b < n → Tells (P (j + b)) (bit row b)
 
-pub row_start : {P : ℕ → Type 0} {n : ℕ} → RowFrom P n n 0
-row_start {P} {n} =
-    let none : n - n ≡ 0 = omega arith in
-    record { within = omega arith; fits = rw none (zero-lt-suc 0); tells = λ b l. absurd (omega arith) }
-
 pub flag_few : {P : Type 0} {s : ℕ} → Flags P s → s < 2
 flag_few (on p e) = omega arith
 flag_few (off d e) = omega arith
 
 module _ {P : ℕ → Type 0} {n j row : ℕ} (r : RowFrom P n j row) (some : 0 < j) where
-  pub row_small : n ≤ 16 → row < 32768
-  row_small few = let h : n - j ≤ 15 = omega arith in omega (arith, r.fits, pow-le-pow_right {n = 2} (zero-lt-suc 1) h)
-
   pub row_more : {s : ℕ} → Flags (P (j - 1)) s → RowFrom P n (j - 1) (2 * row + s)
   row_more {s} f =
       let one : n - (j - 1) ≡ suc (n - j) = omega (arith, r.within) in

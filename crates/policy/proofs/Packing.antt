@@ -2,18 +2,15 @@
 -- by side; a row with a gap opened or closed is two parts side by side. Assumes nothing.
 use Prim.Native.Nat.{ℕ, zero, suc, ◌+◌, ◌-◌, ◌*◌, ◌/◌, ◌%◌, ◌^◌, ◌≤◌, ◌<◌}
 use mathlib.Core.Path.{◌≡◌, refl, sym, ap, ◌∙◌}
-use mathlib.Core.List.{List}
 use mathlib.Core.Logic.{inl, inr}
-use native.Mathlib.Nat.{add-zero, add_assoc, mul-suc, mul-le-mul_right, mod-lt, mod-eq_of_lt, zero-lt-suc}
+use native.Mathlib.Nat.{mul-suc, mod-lt, mod-eq_of_lt, zero-lt-suc}
 use native.Mathlib.Omega.{arith}
 use lib.Arith.{digits_lt}
 use lib.Bits.{bit_and, and_block, and_mask, and_zero_r}
-use lib.ListN.{get_or}
-use lib.Pow.{pow_pos, pow_mono, pow-add, split, shr_mono, mod-mod-pow}
-use Rattle.table.specs.Steps.Found.{Tells}
+use lib.Pow.{pow_pos, pow_mono, pow-add, split, mod-mod-pow}
 use Rattle.table.proofs.Lists.{le_or_lt}
 use Rattle.policy.specs.Steps.Squares.{bit}
-use Rattle.policy.specs.Steps.Packed.{four_at, place_of, Eight, Gathered, Sixteen, Opened, Closed}
+use Rattle.policy.specs.Steps.Packed.{place_of, Gathered, Sixteen, Opened, Closed}
 use Rattle.policy.proofs.Bits.{bit_from, bit_high, bit_below, beside_low, beside_high, double_low, double_high}
 
 -- n digits of m bits as one number, the first the lowest
@@ -96,39 +93,6 @@ joins_eights {a = a} {b = b} f s =
       high = λ k l. ap (λ (x : ℕ). bit x (8 + k)) e ∙ beside_high 8 b f.small k (8 + k) refl ∙ s.bits k l;
     }
 
--- a mark is 1 where its lower bit is, and 2 where its upper bit is
-mark_bits : (m : ℕ) → m ≤ 2 → Tells (m ≡ 1) (bit m 0) × Tells (m ≡ 2) (bit m 1)
-mark_bits zero l = (λ e. omega arith, λ e. omega arith)
-mark_bits (suc zero) l = (refl, λ e. omega arith)
-mark_bits (suc (suc zero)) l = (λ e. omega arith, refl)
-mark_bits (suc (suc (suc m))) l = absurd (omega arith)
-
-module _ (marks : List ℕ) (at : ℕ) (legal : (k : ℕ) → k < 8 → get_or marks (at + k) 0 ≤ 2) where
-  -- the marks in the order of the digits
-  abbrev digit : ℕ → ℕ
-  digit d = get_or marks (at + (d / 2 + 4 * (d % 2))) 0
-
-  abbrev eight : ℕ
-  eight = four_at marks at + 16 * four_at marks (at + 4)
-
-  few : Digits 4 8 digit
-  few d l = omega (arith, legal (d / 2 + 4 * (d % 2)) (omega arith))
-
-  digits : eight ≡ number 4 8 digit
-  digits = simp (add_assoc, add-zero) (omega arith)
-
-  eight_bit : (k j p : ℕ) → p ≡ place_of k + j → k < 8 → j < 4 → bit eight p ≡ bit (get_or marks (at + k) 0) j
-  eight_bit k j p e l h =
-      let own : digit_of k / 2 + 4 * (digit_of k % 2) ≡ k = omega arith in
-      ap (λ (x : ℕ). bit x p) digits ∙ number_bit 4 8 digit few (digit_of k) j p (omega arith) (omega arith) h ∙ ap (λ (x : ℕ). bit (get_or marks (at + x) 0) j) own
-
-  pub eight_tells : Eight marks at eight
-  eight_tells = record {
-    small = rw digits (number_few 4 8 digit few);
-    ones = λ k l. rw (eight_bit k 0 (place_of k) (omega arith) l (omega arith)) (mark_bits (get_or marks (at + k) 0) (legal k l)).0;
-    twos = λ k l. rw (eight_bit k 1 (place_of k + 1) refl l (omega arith)) (mark_bits (get_or marks (at + k) 0) (legal k l)).1;
-  }
-
 -- a word whose lowest i bits are those of a row, and whose others are the bits of another
 module _ (i row other : ℕ) {word : ℕ} (parts : word ≡ other * 2 ^ i + row % 2 ^ i) where
   parts_low : (j : ℕ) → j < i → bit word j ≡ bit row j
@@ -174,11 +138,6 @@ module _ (i row : ℕ) where
 
   closed_parts : closed ≡ row / 2 / 2 ^ i * 2 ^ i + row % 2 ^ i
   closed_parts = omega (arith, split (row / 2) i)
-
-  pub closed_few : closed ≤ row
-  closed_few =
-      let half : row / 2 ≤ row = omega arith in
-      omega (arith, closed_parts, split row i, mul-le-mul_right (2 ^ i) (shr_mono i half))
 
   pub closes : Closed i row closed
   closes = record {

@@ -8,8 +8,14 @@ use lib.ListN.{length, get_or, get_or-eq_default}
 use Rattle.table.specs.Privilege.{privileges}
 use Rattle.table.specs.Check.{Accepted, TableAnswer}
 use Rattle.table.proofs.Lists.{le_or_lt}
-use Rattle.table.proofs.Answers.{answer_one, answer_accepted, accepted_answer, lowest_one}
+use Rattle.table.proofs.Answers.{answer_one, answer_accepted, accepted_answer, lowest_one, refusal_not}
 use Rattle.policy.specs.Marks.{Fit, Unfit, length_off, mark_above, Policy, NoPolicy, table, marks}
+use Rattle.std.specs.Prelude.{Err}
+use Rattle.table.specs.Refusals.{number_of, place_of}
+use Rattle.table.specs.declared.refusal.Refusal.{Refusal}
+use Rattle.policy.specs.Misfits.{refusal_of, misfit_number, misfit_place}
+use Rattle.policy.specs.declared.marks.Misfit.{Misfit}
+use Rattle.policy.specs.declared.marks.Misfit.TheVariants.{Length, Mark}
 use Rattle.policy.specs.Steps.Checking.{MarksAnswer, unfit, fit, PolicyAnswer, refused, fits}
 
 -- a set mark is one of the list's
@@ -39,6 +45,12 @@ module _ {first v : ℕ} {ms : List ℕ} where
   pub marks_fit : {n p : ℕ} → 1 ≤ first → n ≡ 0 → MarksAnswer first v ms n p → Fit v ms
   marks_fit l e (unfit u) = absurd (omega (arith, unfit_number u))
   marks_fit l e (fit f q z) = f
+
+-- what is wrong with a policy's own marks, by the refusal
+pub misfit_refused : {v : ℕ} {ms : List ℕ} (m : Misfit) → MarksAnswer 10 v ms (misfit_number {A = ℕ} 10 (Err m)) (misfit_place {A = ℕ} (Err m))
+    → Unfit 10 v ms (number_of (refusal_of m)) (place_of (refusal_of m))
+misfit_refused Length a = marks_refused (omega arith) a
+misfit_refused (Mark p) a = marks_refused (omega arith) a
 
 -- a table with number 0 is accepted, and its place is V
 pub table_accepted : {ws : List ℕ} {n p : ℕ} → n ≡ 0 → TableAnswer ws n p → Accepted ws × (p ≡ privileges ws)
@@ -75,3 +87,7 @@ module _ {ws ms : List ℕ} where
   pub policy_fits : {n p : ℕ} → n ≡ 0 → PolicyAnswer ws ms n p → Policy ws ms × (p ≡ privileges ws)
   policy_fits e (refused r) = absurd (refused_number r e)
   policy_fits e (fits pol f v) = (pol, v)
+
+  -- a refusal is one
+  pub policy_none : (r : Refusal) → PolicyAnswer ws ms (number_of r) (place_of r) → NoPolicy ws ms (number_of r) (place_of r)
+  policy_none r = policy_refused (refusal_not r)

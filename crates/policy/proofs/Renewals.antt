@@ -37,12 +37,6 @@ module _ {marks : List ℕ} {n : Numbering} {r : ℕ} (own : ExchangeMark marks 
   pub barred : r ≡ 2 → BothIn marks n → BarredIn marks n
   barred e b = let s = exchange_set own (λ z. omega arith) in record { can = s.0; both = b; forbidden = sym s.1 ∙ e }
 
-  pub open_both : r ≢ 2 → BothIn marks n → (¬ BarredIn marks n) × RenewedIn marks n
-  open_both d b = (λ f. d (exchange_read own f.can ∙ f.forbidden), inl b)
-
-  pub open_exchange : r ≡ 1 → ¬ BothIn marks n → (¬ BarredIn marks n) × RenewedIn marks n
-  open_exchange e d = let s = exchange_set own (λ z. omega arith) in (λ f. d f.both, inr (s.0, sym s.1 ∙ e))
-
   pub shut : r ≢ 1 → ¬ BothIn marks n → ¬ RenewedIn marks n
   shut d c (inl b) = c b
   shut d c (inr (k, a)) = d (exchange_read own k ∙ a)

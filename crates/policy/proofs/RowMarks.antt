@@ -15,7 +15,7 @@ use Rattle.table.proofs.Lowest.{tells_as}
 use Rattle.table.proofs.Privileges.{row_before, row_behind, replaceable_missing, missing_replaceable}
 use Rattle.policy.specs.Steps.Squares.{bit, AskedAt, MarkedIn, Flags, Room, Row}
 use Rattle.policy.specs.Steps.Packed.{place_of, Eight, Sixteen, Flagged, Opened}
-use Rattle.policy.proofs.Bits.{bit_high, beside_low, RowFrom, row_start, row_small, row_more, row_end}
+use Rattle.policy.proofs.Bits.{bit_high, beside_low, RowFrom, row_more, row_end}
 
 -- the replacements of a child stand side by side: each place of its row is that of one
 pub row_kind : (n : Numbering) (i k : ℕ) → Small n → i < n.count → k < width_in n → (j : ℕ) × ReplaceableIn n i j × (replace_in n i j ≡ row_in n i + k)
@@ -92,13 +92,7 @@ pub record FlagsFrom (marks : List ℕ) (at size k flags : ℕ) : Type 0 where
   pub ones : RowFrom (AskedAt marks at 1) size k steps
   pub twos : RowFrom (AskedAt marks at 2) size k bans
 
-pub flags_start : {marks : List ℕ} {at size : ℕ} → FlagsFrom marks at size size 0
-flags_start = record { steps = 0; bans = 0; is = refl; ones = row_start; twos = row_start }
-
 module _ {marks : List ℕ} {at size k flags : ℕ} (f : FlagsFrom marks at size k flags) where
-  pub flags_small : 0 < k → size ≤ 16 → flags < 2147483648
-  flags_small some few = omega (arith, f.is, row_small f.ones some few, row_small f.twos some few)
-
   pub flags_more : 0 < k → {s b : ℕ} → Flags (AskedAt marks at 1 (k - 1)) s → Flags (AskedAt marks at 2 (k - 1)) b
       → FlagsFrom marks at size (k - 1) (2 * flags + (s + 65536 * b))
   flags_more some {s} {b} one two = record {

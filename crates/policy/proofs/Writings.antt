@@ -19,7 +19,7 @@ use Rattle.policy.specs.Steps.Squares.{bit, marked}
 use Rattle.policy.specs.Steps.Packed.{Closed}
 use Rattle.policy.proofs.Bits.{bit_from}
 use Rattle.policy.proofs.RowMarks.{row_kind}
-use Rattle.policy.specs.Steps.Writing.{Decision, allow, forbid, decision, RowWritten, ChoiceWritten, RangeWritten}
+use Rattle.policy.specs.Steps.Writing.{Decision, allow, forbid, decision, RowWritten, RangeWritten}
 
 -- what a flag tells, decided
 decide : {P : Type 0} (r : Bool) → Tells P r → Decision P (decision r)
@@ -151,9 +151,6 @@ pub record RowsWritten (n : Numbering) (square : List ℕ) (i : ℕ) (old new : 
   pub rest : (p : ℕ) → ((a b : ℕ) → a < i → ReplaceableIn n a b → p ≢ replace_in n a b) → get_or new p 0 ≡ get_or old p 0
 
 module _ {n : Numbering} {square : List ℕ} where
-  pub rows_none : {old : List ℕ} → RowsWritten n square 0 old old
-  rows_none = record { size = refl; done = λ a b l r. absurd (omega arith); rest = λ p f. refl }
-
   pub rows_more : n.gap ≤ 1 → {i : ℕ} {old new newer : List ℕ} → RowsWritten n square i old new → RowWritten n square i new newer → RowsWritten n square (i + 1) old newer
   rows_more narrow {i} {old} {new} {newer} s r = record {
     size = r.size ∙ s.size;
@@ -164,10 +161,3 @@ module _ {n : Numbering} {square : List ℕ} where
       go : (a b : ℕ) → a < i + 1 → ReplaceableIn n a b → Dec (a ≡ i) → Decision (marked square a b ≡ true) (get_or newer (replace_in n a b) 0)
       go a b l o (yes e) = rw e (r.row b (rw e at o))
       go a b l o (no d) = rw (r.rest (replace_in n a b) (λ c u q. d (replace_in_one n a b i c narrow o u q).0)) (s.done a b (omega arith) o)
-
-  pub rows_all : {i : ℕ} {old new : List ℕ} → RowsWritten n square i old new → n.count ≤ i → ChoiceWritten n square old new
-  rows_all s h = record {
-    size = s.size;
-    all = λ a b r. s.done a b (omega (arith, r.from)) r;
-    rest = λ p f. s.rest p (λ a b l. f a b);
-  }

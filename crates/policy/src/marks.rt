@@ -1,10 +1,12 @@
 // Checking a run of marks, and a table with its marks; and copying a run. Contracts cite specs/Marks and specs/Steps/Checking.
 ghost use Rattle.std.specs.Prelude.{◌≡◌, ℕ, ◌≤◌, ◌<◌, length, get_or};
 ghost use Rattle.table.specs.Steps.Found.{Lowest, Tells};
+ghost use Rattle.table.specs.Refusals.{number_in, place_in};
 ghost use Rattle.policy.specs.Marks.{Legal};
+ghost use Rattle.policy.specs.Misfits.{refusal_of, misfit_number, misfit_place};
 ghost use Rattle.policy.specs.Steps.Checking.{MarksAnswer, OrderedPolicy};
 
-use table::{Checked, Found, check_ordered};
+use table::{Refusal, check_ordered};
 
 // The mark of privilege p; past the end stands 0.
 pub fn mark_at(marks: &[u8], p: usize) -> u8
@@ -18,70 +20,67 @@ pub fn none_above(marks: &[u8], most: u8) -> bool
     ensures { Tells ((p : ℕ) → p < length marks.now → get_or marks.now p 0 ≤ most) result }
 {
     let mut none = true;
-    let mut p = 0;
-    while p < marks.len() {
-        none = none & (marks[p] <= most);
-        p += 1;
+    for mark in marks {
+        none &= *mark <= most;
     }
     none
 }
 
 // The lowest privilege whose mark is above 2.
 #[tactic(auto, using(table::proofs::Lowest::passed_hit, table::proofs::Lowest::passed_more))]
-fn lowest_above(marks: &[u8]) -> Found
+fn lowest_above(marks: &[u8]) -> Option<usize>
     ensures { Lowest (Legal marks.now) (length marks.now) result }
 {
     if none_above(marks, 2) {
-        return Found::Nothing;
+        return None;
     }
-    let mut p = 0;
-    while p < marks.len() {
-        if 2 < marks[p] {
-            return Found::At(p);
+    for (p, &mark) in marks.iter().enumerate() {
+        if 2 < mark {
+            return Some(p);
         }
-        p += 1;
     }
-    Found::Nothing
+    None
 }
 
-// Checks that there are v marks, each 0, 1 or 2: the number first for their length, the next for a mark.
-pub fn check_marks(marks: &[u8], v: usize, first: u8) -> Checked
-    requires { first < 255 }
-    ensures { MarksAnswer first v marks.now result.number result.place }
+// What is wrong with marks: how many there are, or the lowest privilege whose mark is above 2.
+#[derive(Clone, Copy, Debug, PartialEq, Eq)]
+pub enum Misfit {
+    Length,
+    Mark(usize),
+}
+
+impl From<Misfit> for Refusal {
+    ghost from_gives = { λ misfit refusal. refusal ≡ refusal_of misfit };
+
+    fn from(misfit: Misfit) -> Refusal {
+        match misfit {
+            Misfit::Length => Refusal::MarksLength,
+            Misfit::Mark(p) => Refusal::Mark(p),
+        }
+    }
+}
+
+// Checks that there are v marks, each 0, 1 or 2.
+pub fn check_marks(marks: &[u8], v: usize) -> Result<(), Misfit>
+    ensures { (first : ℕ) → MarksAnswer first v marks.now (misfit_number first result) (misfit_place result) }
 {
     if marks.len() != v {
-        return Checked {
-            number: first,
-            place: 0,
-        };
+        return Err(Misfit::Length);
     }
-    let found = lowest_above(marks);
-    if let Found::At(place) = found {
-        return Checked {
-            number: first + 1,
-            place: place,
-        };
-    }
-    Checked {
-        number: 0,
-        place: 0,
+    match lowest_above(marks) {
+        Some(place) => Err(Misfit::Mark(place)),
+        None => Ok(()),
     }
 }
 
-// Checks a table, and then marks for it: 0 and V, or the first of 1 to 11 and 19 with its place. With 0 the order holds the types, each after its children.
-pub fn check_policy(words: &[u16], marks: &[u8], order: &mut [u8; 256]) -> Checked
+// Checks a table, and then marks for it: V, or the first of 1 to 11 and 19 with its place. With V the order holds the types, each after its children.
+pub fn check_policy(words: &[u16], marks: &[u8], order: &mut [u8; 256]) -> Result<usize, Refusal>
     requires { length order.old ≡ 256 }
-    ensures { OrderedPolicy words.now marks.now order.new result.number result.place }
+    ensures { OrderedPolicy words.now marks.now order.new (number_in result) (place_in result) }
 {
-    let table = check_ordered(words, order);
-    if table.number != 0 {
-        return table;
-    }
-    let fit = check_marks(marks, table.place, 10);
-    if fit.number != 0 {
-        return fit;
-    }
-    table
+    let v = check_ordered(words, order)?;
+    check_marks(marks, v)?;
+    Ok(v)
 }
 
 // Copies the marks, all of them.
@@ -89,9 +88,5 @@ pub fn copy(marks: &[u8], m: &mut [u8])
     requires { length m.old ≡ length marks.now }
     ensures { m.new ≡ marks.now }
 {
-    let mut p = 0;
-    while p < marks.len() {
-        m[p] = marks[p];
-        p += 1;
-    }
+    m.copy_from_slice(marks);
 }

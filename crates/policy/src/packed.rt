@@ -14,7 +14,7 @@ const SIDE_BY_SIDE: u64 = 0x20_4081;
 fn wide(x: u8) -> u64
     ensures { Within 256 x result }
 {
-    x as u64
+    u64::from(x)
 }
 
 // Four marks from a place on, a byte for each, the first in the lowest. The compiler makes it one load.
@@ -66,7 +66,7 @@ pub(crate) fn without_gap(row: u16, i: usize) -> u16
     requires { i < 32 }
     ensures { Closed i row result }
 {
-    let whole = row as u32;
+    let whole = u32::from(row);
     let half = whole / 2;
     (whole % (1 << i) + (half - half % (1 << i))) as u16
 }

@@ -16,10 +16,8 @@ fn close(rows: [u16; 16], n: usize) -> [u16; 16]
     ensures { Square n (Plus (Marked n rows)) result }
 {
     let mut closed = rows;
-    let mut k = 0;
-    while k < n {
+    for k in 0..n {
         join(&mut closed, k);
-        k += 1;
     }
     closed
 }

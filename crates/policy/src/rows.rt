@@ -9,13 +9,12 @@ ghost use Rattle.policy.specs.Steps.Packed.{Flagged};
 
 use super::packed::{eight, sixteen, with_gap};
 use table::privilege::{Numbering, missing, row_at, width};
-use table::words::lesser;
 
 // 1 if the mark is the one asked for, else 0.
 fn flag(mark: u8, asked: u8) -> u64
     ensures { Flags (mark ≡ asked) result }
 {
-    if mark == asked { 1 } else { 0 }
+    u64::from(mark == asked)
 }
 
 // Some marks from a place on, one by one: the lower sixteen bits tell which are 1, and the upper ones which are 2.
@@ -24,9 +23,7 @@ fn flags_of(marks: &[u8], at: usize, size: usize) -> u64
     ensures { Flagged marks.now at size result }
 {
     let mut flags: u64 = 0;
-    let mut k = size;
-    while 0 < k {
-        k -= 1;
+    for k in (0..size).rev() {
         let mark = marks[at + k];
         flags = 2 * flags + (flag(mark, 1) + 65536 * flag(mark, 2));
     }
@@ -96,11 +93,8 @@ pub fn read_rows(marks: &[u8], n: Numbering, allowed: &mut [u16; 16], forbidden:
     requires { Readable n marks.now × (length allowed.old ≡ 16) × (length forbidden.old ≡ 16) }
     ensures { Read marks.now n allowed.new forbidden.new }
 {
-    let count = n.count;
-    let mut i = 0;
-    while i < count {
+    for i in 0..n.count {
         read_row(marks, n, i, allowed, forbidden);
-        i += 1;
     }
 }
 
@@ -120,14 +114,11 @@ pub fn allowed_rows(marks: &[u8], n: Numbering) -> [u16; 16]
     requires { Readable n marks.now }
     ensures { Square n.count (StepIn marks.now n) result }
 {
-    let count = n.count;
     let mut rows = [0u16; 16];
-    let mut i = 0;
-    while i < count {
+    for i in 0..n.count {
         let own = width(n);
         let bits = ones(marks, row_at(n, i), own);
         rows[i] = with_gap(bits, own, missing(n, i));
-        i += 1;
     }
     rows
 }
@@ -156,7 +147,7 @@ pub fn lowest_shared(a: u16, b: u16, count: usize) -> usize
     if shared == 0 {
         return count;
     }
-    lesser(u16::trailing_zeros(shared) as usize, count)
+    count.min(shared.trailing_zeros() as usize)
 }
 
 // The lowest of count positions to which both lead from i, or behind the last one if there is none.
@@ -179,7 +170,7 @@ pub fn only(j: usize) -> u16
 fn shared(a: u16, b: u16) -> u16
     ensures { Flags (Shared a b) result }
 {
-    if a & b == 0 { 0 } else { 1 }
+    u16::from(a & b != 0)
 }
 
 // Those of the first n positions from which the rows lead to one of the word.
@@ -188,9 +179,7 @@ pub fn leading_into(rows: &[u16; 16], n: usize, word: u16) -> u16
     ensures { Positions n (Into n rows.now word) result }
 {
     let mut from: u16 = 0;
-    let mut p = n;
-    while 0 < p {
-        p -= 1;
+    for p in (0..n).rev() {
         from = 2 * from + shared(rows[p], word);
     }
     from
@@ -201,7 +190,7 @@ pub fn toggle(rows: &mut [u16; 16], i: usize, k: usize)
     requires { (length rows.old ≡ 16) × (i < 16) × (k < 16) }
     ensures { Toggled i k rows.old rows.new }
 {
-    rows[i] = rows[i] ^ (1 << k);
+    rows[i] ^= 1 << k;
 }
 
 // A row, joined with another if it leads to k.
@@ -218,9 +207,7 @@ pub(crate) fn join(rows: &mut [u16; 16], k: usize)
     ensures { Joined k rows.old rows.new }
 {
     let row = rows[k];
-    let mut i = 0;
-    while i < 16 {
-        rows[i] = joined(rows[i], row, k);
-        i += 1;
+    for other in rows.iter_mut() {
+        *other = joined(*other, row, k);
     }
 }

@@ -19,10 +19,8 @@ fn write_bits(out: &mut [u8], at: usize, bits: u16, size: usize)
     requires { (size ≤ 16) × (0 < size → at + size ≤ length out.old) }
     ensures { RangeWritten (λ p. bit bits (p - at) ≡ true) at (at + size) out.old out.new }
 {
-    let mut k = 0;
-    while k < size {
+    for k in 0..size {
         out[at + k] = decided(has(bits, k));
-        k += 1;
     }
 }
 
@@ -48,10 +46,7 @@ pub fn write_choice(out: &mut [u8], square: &[u16; 16], n: Numbering)
     requires { Room n out.old }
     ensures { ChoiceWritten n square.now out.old out.new }
 {
-    let count = n.count;
-    let mut i = 0;
-    while i < count {
+    for i in 0..n.count {
         write_row(out, square, n, i);
-        i += 1;
     }
 }

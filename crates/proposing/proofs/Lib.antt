@@ -2,3 +2,4 @@
 pub mod Answered
 pub mod ProposeTests
 mod Changes
+pub mod Misfits

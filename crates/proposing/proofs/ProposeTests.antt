@@ -4,12 +4,10 @@ use mathlib.Core.Option.{Option, none, some as found}
 use Rattle.table.specs.Steps.Found.{Lowest}
 use Rattle.table.specs.Privilege.{privileges}
 use Rattle.table.specs.Check.{Accepted, TableAnswer}
-use Rattle.table.specs.declared.Checked.{Checked}
-use Rattle.table.specs.declared.Found.{Found}
-use Rattle.table.specs.declared.Found.TheVariants.{At, Nothing}
+use Rattle.std.specs.Prelude.{Option as Place, Some as At, None as Nowhere}
 use Rattle.table.proofs.Test.{Test, is_at_most, is_equal, both, either, fails, lowest_of, lowest_of_lem}
 use Rattle.table.proofs.HowMany.{how_many_by, count_by}
-use Rattle.table.proofs.TableTests.{answer_of, answer_of_lem}
+use Rattle.table.proofs.TableTests.{Checked, answer_of, answer_of_lem}
 use Rattle.policy.specs.Marks.{Legal, Fit, Unfit, length_off, mark_above, Policy, NoPolicy, table, marks}
 use Rattle.verdict.specs.Below.{ForbiddenBelow}
 use Rattle.verdict.specs.Breaches.{spot_of, BreachOf, Verdict, clean, broken}
@@ -31,9 +29,9 @@ Unless P Why none = P
 Unless P Why (found c) = Why c.number c.place
 
 -- what is wrong with marks
-abbrev mark_by : ℕ → Found → Option Checked
+abbrev mark_by : ℕ → Place ℕ → Option Checked
 mark_by first (At p) = found (record { number = first + 1; place = p })
-mark_by first Nothing = none
+mark_by first Nowhere = none
 
 module _ (first v : ℕ) (ms : List ℕ) where
   abbrev legal : (p : ℕ) → Test (Legal ms p)
@@ -45,9 +43,9 @@ module _ (first v : ℕ) (ms : List ℕ) where
   pub marks_by_lem : Unless (Fit v ms) (Unfit first v ms) marks_by
   marks_by_lem = go (is_equal (length ms) v).run (is_equal (length ms) v).out (is_equal (length ms) v).into
     where
-      each : length ms ≡ v → (r : Found) → Lowest (Legal ms) v r → Unless (Fit v ms) (Unfit first v ms) (mark_by first r)
+      each : length ms ≡ v → (r : Place ℕ) → Lowest (Legal ms) v r → Unless (Fit v ms) (Unfit first v ms) (mark_by first r)
       each s (At p) l = mark_above s refl l
-      each s Nothing l = record { size = s; legal = l }
+      each s Nowhere l = record { size = s; legal = l }
 
       go : (b : Bool) → (T b → length ms ≡ v) → (length ms ≡ v → T b)
           → Unless (Fit v ms) (Unfit first v ms) (elim b [ true ↦ mark_by first (lowest_of v legal) | false ↦ found (record { number = first; place = 0 }) ])
@@ -90,9 +88,9 @@ module _ (ws m n : List ℕ) where
   judge_at Cycle b = breached b
 
   -- by the lowest change but 1 to 2
-  abbrev compare_by : Found → Answer
+  abbrev compare_by : Place ℕ → Answer
   compare_by (At p) = refusal 15 p
-  compare_by Nothing = let b = verdict_by ws n in judge_at b.condition b
+  compare_by Nowhere = let b = verdict_by ws n in judge_at b.condition b
 
   -- by what is wrong with the proposed marks
   abbrev fit_by : Option Checked → Answer
@@ -120,9 +118,9 @@ module _ (ws m n : List ℕ) where
       judge p f k b (clean q e) = accepted p f k q (count_by (privileges ws) (changed_at m n)) (rw e)
       judge p f k b (broken g) = outcomes.broken p f k g (breach b.condition b g.breach)
 
-      compare : Policy ws m → Fit (privileges ws) n → (r : Found) → Lowest (Kept m n) (privileges ws) r → ProposeAnswer ws m n (compare_by r)
+      compare : Policy ws m → Fit (privileges ws) n → (r : Place ℕ) → Lowest (Kept m n) (privileges ws) r → ProposeAnswer ws m n (compare_by r)
       compare p f (At q) l = changed p f l refl
-      compare p f Nothing k = judge p f k (verdict_by ws n) (verdict_by_lem ws n)
+      compare p f Nowhere k = judge p f k (verdict_by ws n) (verdict_by_lem ws n)
 
       fit : Policy ws m → (r : Option Checked) → Unless (Fit (privileges ws) n) (Unfit 13 (privileges ws) n) r → ProposeAnswer ws m n (fit_by r)
       fit p (found c) u = unfit p u refl

@@ -1,3 +1,4 @@
 -- What the contracts of src/ cite, a file for each notion.
 pub mod Proposals
 pub mod Answers
+pub mod Misfits

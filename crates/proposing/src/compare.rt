@@ -4,8 +4,6 @@ ghost use Rattle.table.specs.HowMany.{HowMany};
 ghost use Rattle.table.specs.Steps.Found.{Lowest, Tells};
 ghost use Rattle.proposing.specs.Proposals.{Kept, Changed};
 
-use table::Found;
-
 // Is the mark equal, or did it go from 1 to 2?
 fn is_kept(old: u8, new: u8) -> bool
     ensures { Tells ((new ≡ old) ⊎ ((old ≡ 1) × (new ≡ 2))) result }
@@ -26,19 +24,19 @@ fn all_kept(marks: &[u8], proposed: &[u8], v: usize) -> bool
 }
 
 // The lowest of v privileges whose change is another.
-pub fn lowest_change(marks: &[u8], proposed: &[u8], v: usize) -> Found
+pub fn lowest_change(marks: &[u8], proposed: &[u8], v: usize) -> Option<usize>
     requires { (v ≤ length marks.now) × (v ≤ length proposed.now) }
     ensures { Lowest (Kept marks.now proposed.now) v result }
 {
     if all_kept(marks, proposed, v) {
-        return Found::Nothing;
+        return None;
     }
     for place in 0..v {
         if !is_kept(marks[place], proposed[place]) {
-            return Found::At(place);
+            return Some(place);
         }
     }
-    Found::Nothing
+    None
 }
 
 // How many of the first v marks changed. Counted in 16 bits, eight at a time.

@@ -1,43 +1,43 @@
 // Judging a mend that somebody proposes. Contracts cite specs/Answers and specs/Proposals.
 #![tactic(auto)]
 
+ghost use Rattle.std.specs.Prelude.{◌≡◌};
+ghost use Rattle.verdict.specs.Results.{accepted_answer};
 ghost use Rattle.proposing.specs.Answers.{ProposeAnswer};
+ghost use Rattle.proposing.specs.Misfits.{proposed_refusal};
 
 mod compare;
 
-use policy::marks::{check_marks, check_policy};
-use table::Found;
+use policy::marks::{Misfit, check_marks, check_policy};
+use table::Refusal;
 use verdict::breaches::first_breach;
-use verdict::{Answer, Condition, done_with, refused};
+use verdict::{Condition, Rejection};
+
+// The refusal of proposed marks: 13 or 14.
+fn proposed_refusal(misfit: Misfit) -> Refusal
+    ensures { result ≡ proposed_refusal misfit }
+{
+    match misfit {
+        Misfit::Length => Refusal::ProposedLength,
+        Misfit::Mark(p) => Refusal::ProposedMark(p),
+    }
+}
 
 // Judges a proposed mend: refuses with 1 to 11, 13 to 16 or 19, or accepts it with the number of changed marks.
-pub fn judge_mend(words: &[u16], marks: &[u8], proposed: &[u8]) -> Answer
-    ensures { ProposeAnswer words.now marks.now proposed.now result }
+pub fn judge_mend(words: &[u16], marks: &[u8], proposed: &[u8]) -> Result<usize, Rejection>
+    ensures { ProposeAnswer words.now marks.now proposed.now (accepted_answer result) }
 {
     let mut order = [0u8; 256];
-    let checked = check_policy(words, marks, &mut order);
-    if checked.number != 0 {
-        return refused(checked.number, checked.place);
+    let v = check_policy(words, marks, &mut order)?;
+    if let Err(misfit) = check_marks(proposed, v) {
+        return Err(Rejection::Refused(proposed_refusal(misfit)));
     }
-    let v = checked.place;
-    let fit = check_marks(proposed, v, 13);
-    let unfit = fit.number;
-    if unfit != 0 {
-        return refused(unfit, fit.place);
-    }
-    let found = compare::lowest_change(marks, proposed, v);
-    if let Found::At(place) = found {
-        return refused(15, place);
+    if let Some(place) = compare::lowest_change(marks, proposed, v) {
+        return Err(Rejection::Refused(Refusal::Change(place)));
     }
     let breach = first_breach(words, proposed, &order);
-    let condition = breach.condition;
-    if let Condition::None = condition {
-        return done_with(compare::count_changes(marks, proposed, v));
-    }
-    Answer {
-        number: 16,
-        place: 0,
-        count: 0,
-        breach,
-    }
+    let Condition::None = breach.condition else {
+        return Err(Rejection::Broken(breach));
+    };
+    Ok(compare::count_changes(marks, proposed, v))
 }

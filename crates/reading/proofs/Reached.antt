@@ -1,12 +1,7 @@
 -- Reading line by line: the text before the place reached is the listing of the marks so far, so the first line at fault is the first fault. Assumes nothing.
-use Prim.Native.Nat.{ℕ, suc, ◌+◌, ◌≤◌, ◌<◌}
-use mathlib.Core.Path.{◌≡◌, refl, sym, ap, subst, ◌∙◌}
-use mathlib.Core.Logic.{◌≢◌, inl, inr}
-use mathlib.Core.List.{List}
-use native.Mathlib.Omega.{arith}
+use Rattle.std.proofs.Common.{None, ℕ, suc, ◌+◌, ◌≤◌, ◌<◌, ◌≡◌, refl, sym, ap, subst, ◌∙◌, ◌≢◌, inl, inr, List, arith, length, get_or, set, take, length-set, length-take-le, take_all, get_or-take, get_or-set_same, get_or-set_other}
 use native.Mathlib.Decide.{ℕ_discrete}
-use lib.ListN.{length, get_or, set, take, length-set}
-use lib.Seq.{length-slice, length-take-le, take_all, get_or-take, get_or-set_same, get_or-set_other}
+use Rattle.std.proofs.Math.Seq.{length-slice}
 use Rattle.table.specs.Words.{types}
 use Rattle.table.specs.Privilege.{privileges}
 use Rattle.table.specs.Check.{Accepted}
@@ -18,7 +13,8 @@ use Rattle.listing.specs.Faults.{Starts, at_front, IsSet, LineAt, Fault, no_line
 use Rattle.listing.proofs.Lines.{line_some}
 use Rattle.listing.proofs.Listings.{first_fault}
 use Rattle.listing.proofs.Appending.{start_next, lists_more, lists_marks, lists_line}
-use Rattle.reading.specs.Steps.Edits.{Standing, LineRead, line, no_line as no-line-read}
+use Rattle.reading.specs.Steps.Edits.{Standing, LineEnded, LineRead}
+use Rattle.reading.specs.declared.lines.Line.{Line}
 use Rattle.reading.specs.Steps.Reading.{LinesRead, faulty, listed}
 
 -- the line that ends at a place, and one more than its privilege; 0 at the front
@@ -51,13 +47,9 @@ module _ {label : ℕ → List ℕ} {ws t : List ℕ} where
     line = record { edit = h.edit; offered = h.offered; number = h.number; is = h.line.is };
   }
 
-  line_yes : {a mark p end x : ℕ} → LineRead label ws t a mark p end x → end ≢ 0 → (x < types ws) × Standing label ws t a p mark end
-  line_yes (line l s) d = (l, s)
-  line_yes (no-line-read e f) d = absurd (d e)
-
-  pub line_below : {a mark p end x : ℕ} → Accepted ws → LineRead label ws t a mark p end x → end ≢ 0 → p < 4096
-  line_below a r d =
-      let s = (line_yes r d).1 in
+  pub line_below : {a : ℕ} {r : Line} → Accepted ws → LineEnded label ws t a r → r.privilege < 4096
+  line_below a r =
+      let s = r.standing in
       omega (arith, (facts a).privileges_few, edit_below ws s.edit s.offered, s.number)
 
   pub reached_start : {marks : List ℕ} → Accepted ws → length marks ≡ 4096 → ((p : ℕ) → get_or marks p 0 ≡ 0) → Reached label ws t marks 0 0 0
@@ -88,11 +80,15 @@ module _ {label : ℕ → List ℕ} {ws t : List ℕ} (a : Accepted ws) (l : Lab
   }
 
   module _ {marks : List ℕ} {at from near : ℕ} (r : Reached label ws t marks at from near) where
-    pub reached_more : {mark p end x : ℕ} → at < length t → LineRead label ws t at mark p end x → end ≢ 0 → from ≤ p → Reached label ws t (set marks p mark) end (p + 1) x
-    reached_more {mark} {p} {end} {x} h read d low =
-        let found = line_yes read d in
-        let this : LineAt label ws t at end p mark = standing_line (r.starts h) found.1 in
-        let inside : p < length marks = omega (arith, line_below a read d, r.size) in
+    pub reached_more : {n : Line} → at < length t → LineEnded label ws t at n → from ≤ n.privilege
+        → Reached label ws t (set marks n.privilege n.mark) n.end (n.privilege + 1) n.x
+    reached_more {n} h read low =
+        let p = n.privilege in
+        let mark = n.mark in
+        let end = n.end in
+        let found = read.standing in
+        let this : LineAt label ws t at end p mark = standing_line (r.starts h) found in
+        let inside : p < length marks = omega (arith, line_below a read, r.size) in
         let here : get_or (set marks p mark) p 0 ≡ mark = get_or-set_same marks p mark 0 inside in
         let others : (q : ℕ) → q ≢ p → get_or (set marks p mark) q 0 ≡ get_or marks q 0 = λ q e. get_or-set_other marks p q mark 0 e in
         let more : Lists label ws (set marks p mark) p (take at t) =
@@ -106,28 +102,27 @@ module _ {label : ℕ → List ℕ} {ws t : List ℕ} (a : Accepted ws) (l : Lab
           ];
           unset = λ q g. others q (λ e. omega arith) ∙ r.unset q (omega arith);
           within = this.within;
-          few = omega (arith, edit_below ws found.1.edit found.1.offered, found.1.number);
-          near_type = found.0;
+          few = omega (arith, edit_below ws found.edit found.offered, found.number);
+          near_type = read.type;
           starts = λ g. start_next a l this g;
-          lists = subst (λ (n : ℕ). Lists label ws (set marks p mark) n (take end t)) next (lists_line a l more here this);
+          lists = subst (λ (q : ℕ). Lists label ws (set marks p mark) q (take end t)) next (lists_line a l more here this);
           last = behind at p mark this (sym next);
         }
 
-    pub reached_on : {mark p end x : ℕ} → at < length t → LineRead label ws t at mark p end x → end ≢ 0 → at < end
-    reached_on h read d = line_some a l (standing_line (r.starts h) (line_yes read d).1)
+    pub reached_on : {n : Line} → at < length t → LineEnded label ws t at n → at < n.end
+    reached_on h read = line_some a l (standing_line (r.starts h) read.standing)
 
     at_fault : {number : ℕ} → Fault label ws t number at → LinesRead label ws t number at marks
     at_fault f = faulty (first_fault a l r.lists (λ p h. r.legal p) r.within f)
 
-    pub reached_none : {mark p end x : ℕ} → at < length t → LineRead label ws t at mark p end x → end ≡ 0 → LinesRead label ws t 25 at marks
-    reached_none h (line low s) z = absurd (omega (arith, line_some a l (standing_line (r.starts h) s)))
-    reached_none h (no-line-read e f) z = at_fault (no_line refl record { starts = r.starts h; none = λ b p m g. f p m b (line_standing g) })
+    pub reached_none : at < length t → LineRead label ws t at None → LinesRead label ws t 25 at marks
+    reached_none h f = at_fault (no_line refl record { starts = r.starts h; none = λ b p m g. f p m b (line_standing g) })
 
-    pub reached_not : {mark p end x : ℕ} → at < length t → LineRead label ws t at mark p end x → end ≢ 0 → p < from → LinesRead label ws t 26 at marks
-    reached_not {mark} {p} {end} h read d low = go r.last
+    pub reached_not : {n : Line} → at < length t → LineEnded label ws t at n → n.privilege < from → LinesRead label ws t 26 at marks
+    reached_not {n} h read low = go r.last
       where
-        this : LineAt label ws t at end p mark
-        this = standing_line (r.starts h) (line_yes read d).1
+        this : LineAt label ws t at n.end n.privilege n.mark
+        this = standing_line (r.starts h) read.standing
 
         go : LastLine label ws t at from → LinesRead label ws t 26 at marks
         go (front e) = absurd (omega arith)
@@ -135,9 +130,9 @@ module _ {label : ℕ → List ℕ} {ws t : List ℕ} (a : Accepted ws) (l : Lab
           start = start;
           last = last;
           last_mark = m;
-          end = end;
-          privilege = p;
-          mark = mark;
+          end = n.end;
+          privilege = n.privilege;
+          mark = n.mark;
           before = before;
           line = this;
           not_above = omega arith;

@@ -16,31 +16,30 @@ use table::privilege::{
 use table::rule::{Rule, child_at, children, rule_at};
 
 // The edit at a star whose child has this label.
-fn star_at(n: Numbering, child: &[u8], l: &[u8], at: usize) -> Ended
+fn star_at(n: Numbering, child: &[u8], l: &[u8], at: usize) -> Option<Ended>
     requires { (n.first ≤ 4096) × (at ≤ length l.now) }
-    ensures { StarRead n child.now l.now at result.number result.end }
+    ensures { StarRead n child.now l.now at result }
 {
-    let inserted = after_two(l, at, b"insert", child);
-    if inserted != 0 {
-        return Ended {
+    if let Some(end) = after_two(l, at, b"insert", child) {
+        return Some(Ended {
             number: insertion(n),
-            end: inserted,
-        };
+            end,
+        });
     }
-    let deleted = after_two(l, at, b"delete", child);
-    if deleted != 0 {
-        return Ended {
+    if let Some(end) = after_two(l, at, b"delete", child) {
+        return Some(Ended {
             number: deletion(n),
-            end: deleted,
-        };
+            end,
+        });
     }
-    if is_exchangeable(n) {
-        return Ended {
-            number: exchange(n),
-            end: after_three(l, at, b"replace", child, child),
-        };
+    if !is_exchangeable(n) {
+        return None;
     }
-    Ended { number: 0, end: 0 }
+    let end = after_three(l, at, b"replace", child, child)?;
+    Some(Ended {
+        number: exchange(n),
+        end,
+    })
 }
 
 // Is there a privilege to replace the child at i by the kind at j?
@@ -48,36 +47,31 @@ fn is_replaceable(n: Numbering, i: usize, j: usize) -> bool
     requires { Positions n i j }
     ensures { Tells (ReplaceableIn n i j) result }
 {
-    if i == j {
-        return n.gap == 0;
-    }
-    true
+    i != j || n.gap == 0
 }
 
 // The edit at a choice with these kids.
-fn choice_at(names: &[u8], starts: &[u16], kids: &[u16], n: Numbering, l: &[u8], at: usize) -> Ended
+fn choice_at(
+    names: &[u8],
+    starts: &[u16],
+    kids: &[u16],
+    n: Numbering,
+    l: &[u8],
+    at: usize,
+) -> Option<Ended>
     requires { Kinds (label_in names.now starts.now) kids.now n × (at ≤ length l.now) }
-    ensures { ChoiceRead (label_in names.now starts.now) kids.now n l.now at result.number result.end }
+    ensures { ChoiceRead (label_in names.now starts.now) kids.now n l.now at result }
 {
-    let verb = after(l, at, b"replace", b' ');
-    if verb == 0 {
-        return Ended { number: 0, end: 0 };
+    let verb = after(l, at, b"replace", b' ')?;
+    let from = find_kid(names, starts, kids, n.count, l, verb, b' ')?;
+    let to = find_kid(names, starts, kids, n.count, l, from.end, b'\n')?;
+    if !is_replaceable(n, from.number, to.number) {
+        return None;
     }
-    let from = find_kid(names, starts, kids, n.count, l, verb, b' ');
-    if from.end == 0 {
-        return Ended { number: 0, end: 0 };
-    }
-    let to = find_kid(names, starts, kids, n.count, l, from.end, b'\n');
-    if to.end == 0 {
-        return Ended { number: 0, end: 0 };
-    }
-    if is_replaceable(n, from.number, to.number) {
-        return Ended {
-            number: replacement(n, from.number, to.number),
-            end: to.end,
-        };
-    }
-    Ended { number: 0, end: 0 }
+    Some(Ended {
+        number: replacement(n, from.number, to.number),
+        end: to.end,
+    })
 }
 
 // The edit at type x, whose first privilege is given.
@@ -89,23 +83,18 @@ pub(crate) fn edit_at(
     first: usize,
     l: &[u8],
     at: usize,
-) -> Ended
+) -> Option<Ended>
     requires { Readable words.now names.now starts.now × (x < types words.now) × (first ≡ first_privilege words.now x) × (at ≤ length l.now) }
-    ensures { EditRead (label_in names.now starts.now) words.now x l.now at result.number result.end }
+    ensures { EditRead (label_in names.now starts.now) words.now x l.now at result }
 {
     let n = numbers_at(words, x, first);
     match rule_at(words, x) {
-        Rule::Empty => Ended { number: 0, end: 0 },
-        Rule::Text => Ended {
-            number: first,
-            end: after(l, at, b"text", b'\n'),
-        },
-        Rule::Sequence { first: _, count: _ } => Ended { number: 0, end: 0 },
-        Rule::Choice { first: _, count: _ } => {
-            choice_at(names, starts, children(words, x), n, l, at)
+        Rule::Text => {
+            let end = after(l, at, b"text", b'\n')?;
+            Some(Ended { number: first, end })
         }
-        Rule::Star { first: _, count: _ } => {
-            star_at(n, label(names, starts, child_at(words, x, 0)), l, at)
-        }
+        Rule::Choice { .. } => choice_at(names, starts, children(words, x), n, l, at),
+        Rule::Star { .. } => star_at(n, label(names, starts, child_at(words, x, 0)), l, at),
+        Rule::Empty | Rule::Sequence { .. } => None,
     }
 }

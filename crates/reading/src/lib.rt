@@ -2,6 +2,7 @@
 #![tactic(auto)]
 
 ghost use Rattle.std.specs.Prelude.{ℕ, ◌≡◌, length, get_or};
+ghost use Rattle.table.specs.Refusals.{number_in, no_place_in};
 ghost use Rattle.labels.specs.Steps.Booked.{label_in};
 ghost use Rattle.reading.specs.Steps.Reading.{Readable, LinesRead};
 
@@ -10,47 +11,38 @@ mod lines;
 mod matching;
 
 use lines::read_line;
-use table::Checked;
+use table::Refusal;
 use table::privilege::first_privileges;
 
-// Reads the lines of a listing into marks that are all unset: 0, or 25 or 26 with the first byte of the first line at fault.
+// Reads the lines of a listing into marks that are all unset, or refuses with the first byte of the first line at fault.
 pub fn read_lines(
     words: &[u16],
     names: &[u8],
     starts: &[u16],
     listing: &[u8],
     marks: &mut [u8; 4096],
-) -> Checked
+) -> Result<(), Refusal>
     requires { Readable words.now names.now starts.now × (length marks.old ≡ 4096) × ((p : ℕ) → get_or marks.old p 0 ≡ 0) }
-    ensures { LinesRead (label_in names.now starts.now) words.now listing.now result.number result.place marks.new }
+    ensures { LinesRead (label_in names.now starts.now) words.now listing.now (number_in result) (no_place_in result) marks.new }
 {
     let mut firsts = [0u16; 256];
     first_privileges(words, &mut firsts);
     let mut at = 0;
     let mut from = 0;
     let mut near = 0;
+    // A while: the place moves on by a line.
     while at < listing.len() {
-        let line = read_line(words, names, starts, &firsts, listing, at, near);
-        if line.end == 0 {
-            return Checked {
-                number: 25,
-                place: at,
-            };
-        }
+        let Some(line) = read_line(words, names, starts, &firsts, listing, at, near) else {
+            return Err(Refusal::NoLine(at));
+        };
         let p = line.privilege;
         if p < from {
-            return Checked {
-                number: 26,
-                place: at,
-            };
+            return Err(Refusal::NotAbove(at));
         }
         marks[p] = line.mark;
         at = line.end;
         from = p + 1;
         near = line.x;
     }
-    Checked {
-        number: 0,
-        place: 0,
-    }
+    Ok(())
 }

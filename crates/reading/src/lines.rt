@@ -9,7 +9,7 @@ use super::edits::edit_at;
 use super::matching::{find_type, sign_at};
 use table::words::{types, word_at};
 
-// What a line says: its mark, its type and its privilege; and the place behind it, which is 0 if there is no line.
+// What a line says: its mark, its type and its privilege; and the place behind it.
 #[derive(Clone, Copy)]
 pub(crate) struct Line {
     pub mark: u8,
@@ -27,34 +27,18 @@ pub(crate) fn read_line(
     l: &[u8],
     at: usize,
     near: usize,
-) -> Line
+) -> Option<Line>
     requires { Readable words.now names.now starts.now × FirstsOf words.now firsts.now × (at ≤ length l.now) × (near < types words.now) }
-    ensures { LineRead (label_in names.now starts.now) words.now l.now at result.mark result.privilege result.end result.x }
+    ensures { LineRead (label_in names.now starts.now) words.now l.now at result }
 {
-    let mark = sign_at(l, at);
-    if mark == 0 {
-        return Line {
-            mark: 0,
-            x: 0,
-            privilege: 0,
-            end: 0,
-        };
-    }
-    let named = find_type(names, starts, types(words), l, at + 2, near);
-    if named.end == 0 {
-        return Line {
-            mark: 0,
-            x: 0,
-            privilege: 0,
-            end: 0,
-        };
-    }
+    let mark = sign_at(l, at)?;
+    let named = find_type(names, starts, types(words), l, at + 2, near)?;
     let x = named.number;
-    let edit = edit_at(words, names, starts, x, word_at(firsts, x), l, named.end);
-    Line {
-        mark: mark,
-        x: x,
+    let edit = edit_at(words, names, starts, x, word_at(firsts, x), l, named.end)?;
+    Some(Line {
+        mark,
+        x,
         privilege: edit.number,
         end: edit.end,
-    }
+    })
 }

@@ -5,56 +5,52 @@ ghost use Rattle.listing.specs.Line.{spaced};
 ghost use Rattle.reading.specs.Steps.Matching.{ended, blanked, Matched, Sought, SignRead};
 
 use labels::label;
-use runs::{is_same, part};
 use table::words::word_at;
 
-// A number by the text that stands for it, and the place behind that text, which is 0 if there is none.
+// A number by the text that stands for it, and the place behind that text.
 #[derive(Clone, Copy)]
 pub(crate) struct Ended {
     pub number: usize,
     pub end: usize,
 }
 
-// The place behind a word and the byte that ends it, if they stand at a place; else 0.
-pub(crate) fn after(l: &[u8], at: usize, word: &[u8], stop: u8) -> usize
+// The place behind a word and the byte that ends it, if they stand at a place.
+pub(crate) fn after(l: &[u8], at: usize, word: &[u8], stop: u8) -> Option<usize>
     requires { at ≤ length l.now }
     ensures { Matched l.now at (ended word.now stop) result }
 {
     if l.len() - at <= word.len() {
-        return 0;
+        return None;
     }
     let end = at + word.len();
-    if l[end] != stop {
-        return 0;
-    }
-    if is_same(part(l, at, end), word) {
-        end + 1
+    if l[end] == stop && l[at..end] == word[..] {
+        Some(end + 1)
     } else {
-        0
+        None
     }
 }
 
 // The same of a line of two parts.
-pub(crate) fn after_two(l: &[u8], at: usize, first: &[u8], second: &[u8]) -> usize
+pub(crate) fn after_two(l: &[u8], at: usize, first: &[u8], second: &[u8]) -> Option<usize>
     requires { at ≤ length l.now }
     ensures { Matched l.now at (spaced first.now (second.now ∷ [])) result }
 {
-    let next = after(l, at, first, b' ');
-    if next == 0 {
-        return 0;
-    }
+    let next = after(l, at, first, b' ')?;
     after(l, next, second, b'\n')
 }
 
 // The same of a line of three parts.
-pub(crate) fn after_three(l: &[u8], at: usize, first: &[u8], second: &[u8], third: &[u8]) -> usize
+pub(crate) fn after_three(
+    l: &[u8],
+    at: usize,
+    first: &[u8],
+    second: &[u8],
+    third: &[u8],
+) -> Option<usize>
     requires { at ≤ length l.now }
     ensures { Matched l.now at (spaced first.now (second.now ∷ third.now ∷ [])) result }
 {
-    let next = after(l, at, first, b' ');
-    if next == 0 {
-        return 0;
-    }
+    let next = after(l, at, first, b' ')?;
     after_two(l, next, second, third)
 }
 
@@ -67,41 +63,36 @@ pub(crate) fn find_kid(
     l: &[u8],
     at: usize,
     stop: u8,
-) -> Ended
+) -> Option<Ended>
     requires { (at ≤ length l.now) × ((k : ℕ) → k < n → get_or kids.now k 0 < 256) }
-    ensures { Sought (λ k. ended (label_in names.now starts.now (get_or kids.now k 0)) stop) l.now at 0 n result.number result.end }
+    ensures { Sought (λ k. ended (label_in names.now starts.now (get_or kids.now k 0)) stop) l.now at 0 n result }
 {
-    let mut k = 0;
-    while k < n {
-        let end = after(l, at, label(names, starts, word_at(kids, k)), stop);
-        if end != 0 {
-            return Ended {
-                number: k,
-                end: end,
-            };
+    for k in 0..n {
+        if let Some(end) = after(l, at, label(names, starts, word_at(kids, k)), stop) {
+            return Some(Ended { number: k, end });
         }
-        k += 1;
     }
-    Ended { number: 0, end: 0 }
+    None
 }
 
 // The first of the types between two whose label and a blank stand at a place.
-fn find_between(names: &[u8], starts: &[u16], from: usize, to: usize, l: &[u8], at: usize) -> Ended
+fn find_between(
+    names: &[u8],
+    starts: &[u16],
+    from: usize,
+    to: usize,
+    l: &[u8],
+    at: usize,
+) -> Option<Ended>
     requires { (at ≤ length l.now) × (to ≤ 256) }
-    ensures { Sought (λ x. blanked (label_in names.now starts.now x)) l.now at from to result.number result.end }
+    ensures { Sought (λ x. blanked (label_in names.now starts.now x)) l.now at from to result }
 {
-    let mut x = from;
-    while x < to {
-        let end = after(l, at, label(names, starts, x), b' ');
-        if end != 0 {
-            return Ended {
-                number: x,
-                end: end,
-            };
+    for x in from..to {
+        if let Some(end) = after(l, at, label(names, starts, x), b' ') {
+            return Some(Ended { number: x, end });
         }
-        x += 1;
     }
-    Ended { number: 0, end: 0 }
+    None
 }
 
 // The type whose label and a blank stand at a place, looked for from the type of the line before on, which is where it is in an ascending listing.
@@ -112,27 +103,27 @@ pub(crate) fn find_type(
     l: &[u8],
     at: usize,
     near: usize,
-) -> Ended
+) -> Option<Ended>
     requires { (at ≤ length l.now) × (e ≤ 256) × (near ≤ e) }
-    ensures { Sought (λ x. blanked (label_in names.now starts.now x)) l.now at 0 e result.number result.end }
+    ensures { Sought (λ x. blanked (label_in names.now starts.now x)) l.now at 0 e result }
 {
     let behind = find_between(names, starts, near, e, l, at);
-    if behind.end != 0 {
+    if behind.is_some() {
         return behind;
     }
     find_between(names, starts, 0, near, l, at)
 }
 
-// The mark of the sign that stands at a place with a blank behind it; 0 if there is none.
-pub(crate) fn sign_at(l: &[u8], at: usize) -> u8
+// The mark of the sign that stands at a place with a blank behind it.
+pub(crate) fn sign_at(l: &[u8], at: usize) -> Option<u8>
     requires { at ≤ length l.now }
     ensures { SignRead l.now at result }
 {
-    if after(l, at, b"+", b' ') != 0 {
-        return 1;
+    if after(l, at, b"+", b' ').is_some() {
+        Some(1)
+    } else if after(l, at, b"-", b' ').is_some() {
+        Some(2)
+    } else {
+        None
     }
-    if after(l, at, b"-", b' ') != 0 {
-        return 2;
-    }
-    0
 }

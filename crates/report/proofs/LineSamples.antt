@@ -1,8 +1,6 @@
 -- The verdict's lines of S2, S5 and S7 (document 01): those of conditions 2 and 3 go on with the positions of the chain, and that of condition 1 ends where
 -- it did (document 02, order 6). Assumes nothing.
-use Prim.Native.Nat.{ℕ, ◌+◌}
-use mathlib.Core.Path.{◌≡◌, refl, subst}
-use mathlib.Core.List.{List, [], ◌∷◌, ◌++◌, map}
+use Rattle.std.proofs.Common.{ℕ, ◌+◌, ◌≡◌, refl, subst, List, [], ◌∷◌, ◌++◌, map}
 use Rattle.table.specs.Sum.{sum_below}
 use Rattle.table.specs.Rule.{rule_of, rule_at, children_at, count_of}
 use Rattle.table.specs.Privilege.{gap_of, privileges_at, first_privilege, privileges, replace_of}

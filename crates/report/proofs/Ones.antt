@@ -1,8 +1,5 @@
 -- One text is printed for a file. Assumes nothing.
-use Prim.Native.Nat.{ℕ}
-use mathlib.Core.Path.{◌≡◌, sym, ap, ◌∙◌}
-use mathlib.Core.List.{List, [], ◌∷◌, ◌++◌}
-use native.Mathlib.Omega.{arith}
+use Rattle.std.proofs.Common.{ℕ, ◌≡◌, sym, ap, ◌∙◌, List, [], ◌∷◌, ◌++◌, arith}
 use Rattle.table.specs.Privilege.{privileges}
 use Rattle.table.proofs.Answers.{answer_one, accepted_answer}
 use Rattle.verdict.specs.declared.Breach.{Breach}

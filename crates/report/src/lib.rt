@@ -14,7 +14,6 @@ use completion::complete;
 use lines::put_line;
 use mending::mend;
 use table::check_table;
-use table::words::lesser;
 use verdict::{Breach, judge_policy, number_of};
 
 // A text: the first bytes, as many as its size.
@@ -30,10 +29,8 @@ fn read_words(file: &[u8], words: &mut [u16]) -> usize
     ensures { (result ≤ length words.new) × (take result words.new ≡ words_of file.now) }
 {
     let n = file.len() / 2;
-    let mut k = 0;
-    while k < n {
-        words[k] = (file[2 * k] as u16) + 256 * (file[2 * k + 1] as u16);
-        k += 1;
+    for k in 0..n {
+        words[k] = u16::from(file[2 * k]) + 256 * u16::from(file[2 * k + 1]);
     }
     n
 }
@@ -45,7 +42,7 @@ fn lent(words: &[u16]) -> &[u16]
     if words.len() < 2 {
         return words;
     }
-    &words[0..lesser(words[1] as usize, words.len())]
+    &words[..usize::from(words[1]).min(words.len())]
 }
 
 // Puts the line of an answer: a word, its number and its place.
@@ -53,14 +50,8 @@ fn put_answer(out: &mut [u8], at: usize, word: &[u8], number: u8, place: usize) 
     requires { at + length word.now + 44 ≤ length out.old }
     ensures { Puts (answer_line word.now number place) out.old at out.new result }
 {
-    let numbers = [number as usize, place];
+    let numbers = [usize::from(number), place];
     put_line(out, at, word, &numbers, b"")
-}
-
-fn wide(position: u8) -> usize
-    ensures { result ≡ position }
-{
-    position as usize
 }
 
 // The numbers of the verdict's line: the five of the breach, and then the positions of its chain.
@@ -75,10 +66,8 @@ fn verdict_numbers(breach: Breach, positions: &[u8]) -> [usize; 22]
     numbers[2] = breach.i;
     numbers[3] = breach.j;
     numbers[4] = breach.privilege;
-    let mut k = 0;
-    while k < positions.len() {
-        numbers[5 + k] = wide(positions[k]);
-        k += 1;
+    for (k, position) in positions.iter().enumerate() {
+        numbers[5 + k] = usize::from(*position);
     }
     numbers
 }

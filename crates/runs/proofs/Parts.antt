@@ -1,10 +1,6 @@
 -- A part of a run by its ends. Assumes nothing.
-use Prim.Native.Nat.{ℕ, zero, suc, ◌-◌}
-use mathlib.Core.Path.{◌≡◌, sym}
-use mathlib.Core.List.{List, [], ◌∷◌}
-use native.Mathlib.Omega.{arith}
-use lib.ListN.{take, drop}
-use lib.Seq.{slice, take-nil}
+use Rattle.std.proofs.Common.{ℕ, zero, suc, ◌-◌, ◌≡◌, sym, List, [], ◌∷◌, arith, take, drop}
+use Rattle.std.proofs.Math.Seq.{slice, take-nil}
 
 -- the part from a to b, as a part of what follows a
 pub slice_part : (a b : ℕ) (l : List ℕ) → slice a b l ≡ take (b - a) (drop a l)

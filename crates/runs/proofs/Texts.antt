@@ -1,10 +1,6 @@
 -- Text that is put byte by byte, and one text behind another. Assumes nothing.
-use Prim.Native.Nat.{ℕ, suc, ◌+◌, ◌≤◌, ◌<◌}
-use mathlib.Core.Path.{◌≡◌, refl, sym, ap, subst, ◌∙◌}
-use mathlib.Core.List.{List, [], ◌++◌, append_assoc}
-use native.Mathlib.Omega.{arith}
-use lib.ListN.{length, get_or, set, take, drop, length-append}
-use lib.Seq.{paste, paste-zero, paste-suc, length-paste, take-paste, drop-paste, take-length, drop-drop}
+use Rattle.std.proofs.Common.{ℕ, suc, ◌+◌, ◌≤◌, ◌<◌, ◌≡◌, refl, sym, ap, subst, ◌∙◌, List, [], ◌++◌, append_assoc, arith, length, get_or, set, take, drop, length-append, drop-drop}
+use Rattle.std.proofs.Math.Seq.{paste, paste-zero, paste-suc, length-paste, take-paste, drop-paste, take-length}
 use Rattle.runs.specs.Putting.{Puts, Fits}
 
 -- the first k elements are put

@@ -6,8 +6,6 @@ ghost use Rattle.std.proofs.Math.Seq.{slice};
 ghost use Rattle.table.specs.Steps.Found.{Tells};
 ghost use Rattle.runs.specs.Putting.{Fits};
 
-use table::words::lesser;
-
 // Puts bytes at a place, if there is room for them; answers the place behind them either way.
 pub fn put(bytes: &[u8], out: &mut [u8], at: usize) -> usize
     requires { at + length bytes.now < 18446744073709551616 }
@@ -17,11 +15,7 @@ pub fn put(bytes: &[u8], out: &mut [u8], at: usize) -> usize
     if out.len() < end {
         return end;
     }
-    let mut k = 0;
-    while k < bytes.len() {
-        out[at + k] = bytes[k];
-        k += 1;
-    }
+    out[at..end].copy_from_slice(bytes);
     end
 }
 
@@ -29,8 +23,8 @@ pub fn put(bytes: &[u8], out: &mut [u8], at: usize) -> usize
 pub fn part(bytes: &[u8], a: usize, b: usize) -> &[u8]
     ensures { result.now ≡ slice a b bytes.now }
 {
-    let end = lesser(b, bytes.len());
-    let start = lesser(a, end);
+    let end = b.min(bytes.len());
+    let start = a.min(end);
     &bytes[start..end]
 }
 
@@ -38,15 +32,5 @@ pub fn part(bytes: &[u8], a: usize, b: usize) -> &[u8]
 pub fn is_same(a: &[u8], b: &[u8]) -> bool
     ensures { Tells (a.now ≡ b.now) result }
 {
-    if a.len() != b.len() {
-        return false;
-    }
-    let mut k = 0;
-    while k < a.len() {
-        if a[k] != b[k] {
-            return false;
-        }
-        k += 1;
-    }
-    true
+    a == b
 }

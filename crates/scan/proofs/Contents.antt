@@ -1,13 +1,7 @@
 -- What a declaration holds: EMPTY, ANY, text, mixed content and children. Assumes nothing.
-use Prim.Native.Nat.{ℕ, suc, ◌+◌, ◌≤◌, ◌<◌}
+use Rattle.std.proofs.Common.{ℕ, suc, ◌+◌, ◌≤◌, ◌<◌, ◌≡◌, refl, sym, ◌∙◌, ap, inl, inr, List, [], ◌∷◌, arith, eqb→eq, length, get_or, Err}
 use Prim.Native.Char.{code}
-use mathlib.Core.Path.{◌≡◌, refl, sym, ◌∙◌, ap}
-use mathlib.Core.Logic.{inl, inr}
-use mathlib.Core.List.{List, [], ◌∷◌}
-use native.Mathlib.Omega.{arith}
-use lib.Dec.{eqb→eq}
-use lib.ListN.{length, get_or}
-use lib.Seq.{slice}
+use Rattle.std.proofs.Math.Seq.{slice}
 use Rattle.grammar.specs.Bytes.{ascii, is_space, is_name_start, is_mark, Byte, Of, stop, Literal, done, byte}
 use Rattle.grammar.specs.Tree.{Particle, Particles, Use, Content, is-empty, is_text, is_any, is_mixed, is_children}
 use Rattle.grammar.specs.Grammar.{Blanks, Children, as_choice, as_sequence, Names, no_name, one_name, Pcdata, Spec, spec_empty, spec_any, spec_text, spec_starred, spec_mixed, spec_children}
@@ -18,7 +12,7 @@ use Rattle.scan.specs.Steps.Claims.{Mode, plain, limit, Claim, With, behind_it, 
 use Rattle.scan.specs.Steps.Claims.{WideIn, Inside, of_choice, of_sequence, InsideThen, Mixed, mixed, MixedLimit, ContentLimit, SpecThen, is_star, TextThen, GroupThen}
 use Rattle.scan.specs.Steps.Moves.{Exceeds, Free, Moves, Reads, bad, over}
 use Rattle.scan.specs.Steps.Readers.{Differs, here, later}
-use Rattle.scan.specs.declared.Step.TheVariants.{Bad, Over}
+use Rattle.scan.specs.declared.Stop.TheVariants.{Bad, Over}
 use Rattle.grammar.proofs.Stopping.{le_or_lt}
 use Rattle.scan.proofs.Agreeing.{peek_byte, agree_sym, byte_local, span_le, literal_local}
 use Rattle.scan.proofs.Moving.{Good, free_before, Goes, goes_on, stuck_here, exceeds_by, turn, step, with_map, with_never, good_then, good_or, Avoids, avoids_or}
@@ -62,7 +56,7 @@ differs_not (here l f) (byte c r) = f c
 differs_not (later b d) (byte c r) = differs_not d r
 
 module _ {K : Claim} {t : List ℕ} {a : ℕ} (g : Good K) where
-  pub content_stuck : {Q : Claim} → a ≤ length t → ¬ Byte t a (code "E") → ¬ Byte t a (code "A") → ¬ Byte t a (code "(") → Reads (SpecThen K) Q t a (Bad a)
+  pub content_stuck : {Q : Claim} → a ≤ length t → ¬ Byte t a (code "E") → ¬ Byte t a (code "A") → ¬ Byte t a (code "(") → Reads (SpecThen K) Q t a (Err (Bad a))
   content_stuck l e f o = stuck_here (good_spec g) t a l (λ u h p. go u h (begin p.piece))
     where
       back : (u : List ℕ) {c : ℕ} → Agree t u (suc a) → Byte u a c → Byte t a c
@@ -87,14 +81,14 @@ module _ {K : Claim} {t : List ℕ} {a : ℕ} (g : Good K) where
       go m u h (with_open c) w = absurd (let z = clash h c in omega arith)
 
   -- ANY
-  pub any_over : {Q : Claim} {e : ℕ} → e ≤ length t → Literal t (ascii "ANY") a e → Reads (SpecThen K) Q t a (Over a)
+  pub any_over : {Q : Claim} {e : ℕ} → e ≤ length t → Literal t (ascii "ANY") a e → Reads (SpecThen K) Q t a (Err (Over a))
   any_over {e = e} i l = over {k = a} (exceeds_by g t a a e (omega arith) (omega (arith, three l)) i passes) (free_before (good_spec g) t a)
     where
       passes : (u : List ℕ) → Agree t u e → K e plain u → SpecThen K a (limit a e) u
       passes u h q = record { end = e; tree = is_any a; piece = spec_any (literal_local h (omega arith) l); rest = in_it q (refl, three l) }
 
-  pub any_bad : {Q : Claim} {k : ℕ} → Byte t a (code "A") → Differs t (ascii "ANY") a k → Reads (SpecThen K) Q t a (Bad k)
-  any_bad {Q} {k} b d = go (word_reads g (Bad k) d)
+  pub any_bad : {Q : Claim} {k : ℕ} → Byte t a (code "A") → Differs t (ascii "ANY") a k → Reads (SpecThen K) Q t a (Err (Bad k))
+  any_bad {Q} {k} b d = go (word_reads g (Err (Bad k)) d)
     where
       low : Free (LiteralThen (ascii "ANY") K) t a k → (j n : ℕ) → j < k → j < n → (u : List ℕ) → Agree t u n → {e : ℕ} {x : Content} → Spec u a e x → a ≤ j → With (ContentLimit x) (λ o. K e o u) (limit j n) → ⊥
       low f j n l i u h {e} s o (behind_it q) = f.none j n l i u h (record { end = e; piece = (any_only (byte_local h (omega arith) b) (begin s)).0; rest = q })
@@ -103,7 +97,7 @@ module _ {K : Claim} {t : List ℕ} {a : ℕ} (g : Good K) where
           let v : (j ≡ a) × (n ≡ 3 + a) = rw y.1 at w in
           differs_not d (literal_local (agree_sym h) (omega (arith, v.1, three y.0)) y.0)
 
-      go : Reads (LiteralThen (ascii "ANY") K) K t a (Bad k) → Reads (SpecThen K) Q t a (Bad k)
+      go : Reads (LiteralThen (ascii "ANY") K) K t a (Err (Bad k)) → Reads (SpecThen K) Q t a (Err (Bad k))
       go (bad s f) = bad {k = k} (record {
         from = s.from;
         inside = s.inside;
@@ -166,7 +160,7 @@ module _ {K : Claim} {t : List ℕ} {a : ℕ} (g : Good K) where
       go m u h (this p) = p
       go m u h (that p) = absurd (let z = clash h (bar_first p.piece) in omega arith)
 
-  pub text_mixed : {Q : Claim} → Byte t a (code "|") → Reads (TextThen K) Q t a (Over a)
+  pub text_mixed : {Q : Claim} → Byte t a (code "|") → Reads (TextThen K) Q t a (Err (Over a))
   text_mixed b = over {k = a} (passes (goes_on (good_mixed g) t a (omega (arith, b.within)))) (free_before (good_text g) t a)
     where
       passes : Goes (Then Mixed MixedLimit K) t a → Exceeds (TextThen K) t a a
@@ -183,7 +177,7 @@ module _ {K : Claim} {t : List ℕ} {a : ℕ} (g : Good K) where
           told : (us : List Use) {P : Mode → Type 0} → With (MixedLimit a us) P plain → With (MixedLimit a us) P (limit a (suc a))
           told us (behind_it q) = in_it q (inl (refl, refl))
 
-  pub text_stuck : {Q : Claim} → a ≤ length t → ¬ Byte t a (code ")") → ¬ Byte t a (code "|") → Reads (TextThen K) Q t a (Bad a)
+  pub text_stuck : {Q : Claim} → a ≤ length t → ¬ Byte t a (code ")") → ¬ Byte t a (code "|") → Reads (TextThen K) Q t a (Err (Bad a))
   text_stuck l e f = stuck_here (good_text g) t a l (λ u h p. go u h p)
     where
       go : (u : List ℕ) → Agree t u (suc a) → ¬ TextThen K a plain u

@@ -1,14 +1,7 @@
 -- Particles, choices and sequences: the moves from a particle into its group, from one particle of a row to the next, and to its `)`. Assumes nothing.
-use Prim.Native.Nat.{ℕ, zero, suc, ◌≤◌}
+use Rattle.std.proofs.Common.{ℕ, zero, suc, ◌≤◌, ◌≡◌, refl, ap, inl, inr, Bool, true, false, ◌||◌, List, [], ◌∷◌, arith, eqb, eqb→eq, length, get_or, Err}
 use Prim.Native.Char.{code}
-use mathlib.Core.Path.{◌≡◌, refl, ap}
-use mathlib.Core.Logic.{inl, inr}
-use mathlib.Core.Bool.{Bool, true, false, ◌||◌}
-use mathlib.Core.List.{List, [], ◌∷◌}
-use native.Mathlib.Omega.{arith}
-use lib.Dec.{eqb, eqb→eq}
-use lib.ListN.{length, get_or}
-use lib.Seq.{slice}
+use Rattle.std.proofs.Math.Seq.{slice}
 use Rattle.grammar.specs.Bytes.{ascii, is_space, is_name_start, is_mark, Byte, Of, stop, Literal, done, byte}
 use Rattle.grammar.specs.Tree.{Mark, Particle, Particles, name, choice, sequence, last, more}
 use Rattle.grammar.specs.Grammar.{Blanks, Name, MarkAt, no_mark, question, asterisk, plus, Cp, cp_name, cp_group, Children, as_choice, as_sequence, Row, closed, separated}
@@ -18,7 +11,7 @@ use Rattle.scan.specs.Steps.Agree.{Agree}
 use Rattle.scan.specs.Steps.Claims.{Mode, plain, limit, Claim, With, behind_it, in_it, this, that, LiteralThen, BlanksThen, Maybe, one, none, MaybeThen, LongAt, NameThen}
 use Rattle.scan.specs.Steps.Claims.{WideAt, WideIn, ParticleThen, RowThen, Inside, of_choice, of_sequence, InsideThen, Closing, Opening}
 use Rattle.scan.specs.Steps.Moves.{Moves, Reads, over}
-use Rattle.scan.specs.declared.Step.TheVariants.{Over}
+use Rattle.scan.specs.declared.Stop.TheVariants.{Over}
 use Rattle.scan.proofs.Agreeing.{agree_sym, byte_local}
 use Rattle.scan.proofs.Moving.{Good, free_before, exceeds_by, turn, step, with_map, with_two, then_map, good_then, good_or, Avoids, avoids_or}
 use Rattle.scan.proofs.Pieces.{good_literal, avoids_literal, good_blanks, good_maybe}
@@ -139,7 +132,7 @@ into_group {K} {t} {a} depth g b = step (good_particle (suc depth) g) (good_blan
     down m u h (cp_group c) w = children m u c w
 
 -- a group where none is allowed
-pub too_deep : {K Q : Claim} {t : List ℕ} {a : ℕ} → Good K → Byte t a (code "(") → Reads (ParticleThen zero K) Q t a (Over a)
+pub too_deep : {K Q : Claim} {t : List ℕ} {a : ℕ} → Good K → Byte t a (code "(") → Reads (ParticleThen zero K) Q t a (Err (Over a))
 too_deep {K} {Q} {t} {a} g b = over {k = a} (exceeds_by (good_inside zero (good_maybe is_mark g)) t a a (suc a) (omega arith) (omega arith) b.within (λ u h q. passes u (byte_local h (omega arith) b) q.piece q.rest)) (free_before (good_particle zero g) t a)
   where
     passes : (u : List ℕ) → Byte u a (code "(") → {c : ℕ} {ps : Particles} → Inside u (suc a) c ps → With (WideIn zero ps) (λ o. MaybeThen is_mark K c o u) plain → ParticleThen zero K a (limit a (suc a)) u

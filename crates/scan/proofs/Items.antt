@@ -1,12 +1,6 @@
 -- The claims of declarations and items, and the moves between them. Assumes nothing.
-use Prim.Native.Nat.{ℕ, suc, ◌≤◌, ◌<◌}
+use Rattle.std.proofs.Common.{ℕ, suc, ◌≤◌, ◌<◌, ◌≡◌, refl, inl, inr, Bool, true, false, List, [], ◌∷◌, arith, length, Err}
 use Prim.Native.Char.{code}
-use mathlib.Core.Path.{◌≡◌, refl}
-use mathlib.Core.Logic.{inl, inr}
-use mathlib.Core.Bool.{Bool, true, false}
-use mathlib.Core.List.{List, [], ◌∷◌}
-use native.Mathlib.Omega.{arith}
-use lib.ListN.{length}
 use Rattle.grammar.specs.Bytes.{ascii, is_space, is_mark, Byte, Of, stop, go_on, Literal, done, byte}
 use Rattle.grammar.specs.Tree.{Content, is-empty, Declaration}
 use Rattle.grammar.specs.Grammar.{Remark, ends}
@@ -18,7 +12,7 @@ use Rattle.scan.specs.Steps.Claims.{Mode, plain, limit, Claim, With, behind_it, 
 use Rattle.scan.specs.Steps.Claims.{InSome, Enough, FromItems, FromEnd, FromNamed, FromElement, FromRemark, FromOpen, FromItem}
 use Rattle.scan.specs.Steps.Claims.{Frame, first, behind, Rest, RestMarked}
 use Rattle.scan.specs.Steps.Moves.{Moves, Reads}
-use Rattle.scan.specs.declared.Step.TheVariants.{Bad}
+use Rattle.scan.specs.declared.Stop.TheVariants.{Bad}
 use Rattle.scan.proofs.Agreeing.{peek_byte, peek_end, agree_same, agree_sym, byte_local, of_local}
 use Rattle.scan.proofs.Moving.{moves_on, Good, stuck_here, turn, step, with_map, good_piece, good_then, good_or, Avoids}
 use Rattle.scan.proofs.Pieces.{good_literal, avoids_literal, good_blanks, good_space, avoids_blanks, good_maybe, good_name}
@@ -180,7 +174,7 @@ items_blanks seen l stop = turn (good_items seen) l (λ m u h q. q) (λ m u h p.
 items_blanks seen {t} {a} l (go_on o s) = moves_on (items_blank seen t a o) (items_blanks seen l s)
 
 -- a text without a declaration ends too early
-pub ends_early : {Q : Claim} (t : List ℕ) → Reads (FromItems false) Q t (length t) (Bad (length t))
+pub ends_early : {Q : Claim} (t : List ℕ) → Reads (FromItems false) Q t (length t) (Err (Bad (length t)))
 ends_early t = stuck_here (good_items false) t (length t) (omega arith) (λ u h p. go u h p.items p.enough)
   where
     ended : (u : List ℕ) → Agree t u (suc (length t)) → length t < length u → ⊥

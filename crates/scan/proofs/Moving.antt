@@ -1,17 +1,11 @@
 -- Moves from claim to claim, one after another; how a text that was read so far can go on. Assumes nothing.
-use Prim.Native.Nat.{ℕ, suc, ◌≤◌, ◌<◌}
-use mathlib.Core.Path.{◌≡◌}
-use mathlib.Core.Logic.{◌⊎◌, inl, inr}
-use mathlib.Core.Bool.{Bool}
-use mathlib.Core.List.{List, ◌++◌}
-use native.Mathlib.Omega.{arith}
-use lib.ListN.{length, take, length-append, length-take}
+use Rattle.std.proofs.Common.{ℕ, suc, ◌≤◌, ◌<◌, ◌≡◌, ◌⊎◌, inl, inr, Bool, List, ◌++◌, arith, length, take, length-append, length-take, Result, Err}
 use Rattle.grammar.specs.Bytes.{Of, Literal}
 use Rattle.scan.specs.Steps.Agree.{Agree}
 use Rattle.scan.specs.Steps.Claims.{Mode, plain, limit, Claim, With, behind_it, in_it, Then, Piece, Or, this, that}
 use Rattle.scan.specs.Steps.Moves.{Exceeds, Free, Moves, Reads, got, bad, over}
-use Rattle.scan.specs.declared.Step.{Step}
-use Rattle.scan.specs.declared.Step.TheVariants.{Bad}
+use Rattle.scan.specs.declared.Stop.{Stop}
+use Rattle.scan.specs.declared.Stop.TheVariants.{Bad}
 use Rattle.grammar.proofs.Stopping.{le_or_lt}
 use Rattle.scan.proofs.Agreeing.{agree_less, agree_on, agree_append, agree_take, literal_appended}
 
@@ -33,7 +27,7 @@ moves_on x y = record {
   free = free_on x y.free;
 }
 
-pub reads_on : {P Q R : Claim} {t : List ℕ} {a b : ℕ} {r : Step} → Moves P Q t a b → Reads Q R t b r → Reads P R t a r
+pub reads_on : {P Q R : Claim} {t : List ℕ} {a b : ℕ} {r : Result ℕ Stop} → Moves P Q t a b → Reads Q R t b r → Reads P R t a r
 reads_on x (got y) = got (moves_on x y)
 reads_on x (bad {k} y f) = bad {k = k} (record {
   from = omega (arith, x.from, y.from);
@@ -80,7 +74,7 @@ goes_on g t b l =
     record { other = c.other; alike = agree_on (agree_take t b) (rw n at c.alike); part = rw n at c.part }
 
 -- nothing of K begins with what stands at a
-pub stuck_here : {K Q : Claim} → Good K → (t : List ℕ) (a : ℕ) → a ≤ length t → ((u : List ℕ) → Agree t u (suc a) → ¬ K a plain u) → Reads K Q t a (Bad a)
+pub stuck_here : {K Q : Claim} → Good K → (t : List ℕ) (a : ℕ) → a ≤ length t → ((u : List ℕ) → Agree t u (suc a) → ¬ K a plain u) → Reads K Q t a (Err (Bad a))
 stuck_here g t a l f =
     let c = goes_on g t a l in
     bad {k = a} (record { from = omega arith; inside = l; other = c.other; alike = c.alike; part = c.part; cannot = f }) (free_before g t a)

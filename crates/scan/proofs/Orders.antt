@@ -1,8 +1,5 @@
 -- The pieces of the grammar end behind their start, and the limits they pass lie there too. Assumes nothing.
-use Prim.Native.Nat.{ℕ, zero, suc, ◌≤◌, ◌<◌}
-use mathlib.Core.Logic.{inl, inr}
-use mathlib.Core.List.{List}
-use native.Mathlib.Omega.{arith}
+use Rattle.std.proofs.Common.{ℕ, zero, suc, ◌≤◌, ◌<◌, inl, inr, List, arith}
 use Rattle.grammar.specs.Tree.{Mark, Particle, Particles, Use, Content, Declaration}
 use Rattle.grammar.specs.Grammar.{MarkAt, no_mark, question, asterisk, plus, Cp, cp_name, cp_group, Children, as_choice, as_sequence, Row, closed, separated}
 use Rattle.grammar.specs.Grammar.{Names, no_name, one_name, Pcdata, Spec, spec_empty, spec_any, spec_text, spec_starred, spec_mixed, spec_children}

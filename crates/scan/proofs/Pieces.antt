@@ -1,12 +1,6 @@
 -- The moves over the smallest pieces: words, white space, one byte or none, names. Assumes nothing.
-use Prim.Native.Nat.{ℕ, suc, ◌+◌, ◌≤◌, ◌<◌}
-use mathlib.Core.Path.{◌≡◌, refl, sym, ap}
-use mathlib.Core.Logic.{◌⊎◌, inl, inr}
-use mathlib.Core.Bool.{Bool, true, false}
-use mathlib.Core.List.{List, [], ◌∷◌}
-use native.Mathlib.Omega.{arith}
-use lib.ListN.{length}
-use lib.Seq.{slice, length-slice}
+use Rattle.std.proofs.Common.{ℕ, suc, ◌+◌, ◌≤◌, ◌<◌, ◌≡◌, refl, sym, ap, ◌⊎◌, inl, inr, Bool, true, false, List, [], ◌∷◌, arith, length, Result, Ok, Err}
+use Rattle.std.proofs.Math.Seq.{slice, length-slice}
 use Rattle.grammar.specs.Bytes.{ascii, is_space, is_name_start, is_name_byte, Byte, Of, Span, stop, go_on, Literal, done, byte}
 use Rattle.grammar.specs.Grammar.{Blanks, Space, Name}
 use Rattle.grammar.proofs.Pieces.{off, apart}
@@ -14,8 +8,8 @@ use Rattle.scan.specs.Steps.Agree.{Agree}
 use Rattle.scan.specs.Steps.Claims.{Mode, plain, limit, Claim, With, behind_it, in_it, Piece, LiteralThen, BlanksThen, SpaceThen, Maybe, one, none, MaybeThen, LongAt, NameThen}
 use Rattle.scan.specs.Steps.Moves.{Moves, Reads, got, over}
 use Rattle.scan.specs.Steps.Readers.{BlanksRead, SpaceRead, MaybeRead, taken, left, NameGot, NameLong, NameRead, Differs, here, later, WordRead}
-use Rattle.scan.specs.declared.Step.{Step}
-use Rattle.scan.specs.declared.Step.TheVariants.{At, Bad, Over}
+use Rattle.scan.specs.declared.Stop.{Stop}
+use Rattle.scan.specs.declared.Stop.TheVariants.{Bad, Over}
 use Rattle.scan.proofs.Agreeing.{agree_sym, byte_local, of_local, span_le, span_local, literal_le, span_same}
 use Rattle.scan.proofs.Moving.{moves_on, reads_on, Good, stuck_here, exceeds_by, turn, step, good_piece, good_then, Avoids}
 
@@ -48,17 +42,17 @@ pub literal_moves : {K : Claim} {t cs : List ℕ} {a b : ℕ} → Good K → b �
 literal_moves g l done = no_word g l
 literal_moves g l (byte b r) = moves_on (byte_moves g b) (literal_moves g l r)
 
-differs : {K : Claim} {t cs : List ℕ} {a k : ℕ} → Good K → Differs t cs a k → Reads (LiteralThen cs K) K t a (Bad k)
+differs : {K : Claim} {t cs : List ℕ} {a k : ℕ} → Good K → Differs t cs a k → Reads (LiteralThen cs K) K t a (Err (Bad k))
 differs {K} {t} g (here {c} {a} {cs} l f) = stuck_here (good_literal (c ∷ cs) g) t a l (λ u h p. go u h p.piece)
   where
     go : (u : List ℕ) → Agree t u (suc a) → {e : ℕ} → Literal u (c ∷ cs) a e → ⊥
     go u h (byte d r) = f (byte_local (agree_sym h) (omega arith) d)
 differs g (later b d) = reads_on (byte_moves g b) (differs g d)
 
-pub word_reads : {K : Claim} {t cs : List ℕ} {a : ℕ} → Good K → (r : Step) → WordRead t cs a r → Reads (LiteralThen cs K) K t a r
-word_reads g (At e) x = got (literal_moves g x.0 x.1)
-word_reads g (Bad k) x = differs g x
-word_reads g (Over k) x = absurd x
+pub word_reads : {K : Claim} {t cs : List ℕ} {a : ℕ} → Good K → (r : Result ℕ Stop) → WordRead t cs a r → Reads (LiteralThen cs K) K t a r
+word_reads g (Ok e) x = got (literal_moves g x.0 x.1)
+word_reads g (Err (Bad k)) x = differs g x
+word_reads g (Err (Over k)) x = absurd x
 
 -- a piece that ends where it must
 pub piece_moves : {R : List ℕ → ℕ → ℕ → Type 0} {K : Claim} {t : List ℕ} {a b : ℕ} → Good K → a ≤ b → b ≤ length t
@@ -107,10 +101,10 @@ space_moves g f o x = piece_moves g (omega (arith, span_le x.blanks)) x.inside
     (λ u h. record { start = of_local h (omega (arith, span_le x.blanks)) o; rest = span_local h (omega arith) x.blanks })
     (λ m u c n h l s q. span_same x.blanks x.over s.rest (f.free_of c m u q) h l)
 
-pub space_reads : {K : Claim} {t : List ℕ} {a : ℕ} → Good K → Avoids is_space K → a ≤ length t → (r : Step) → SpaceRead t a r → Reads (SpaceThen K) K t a r
-space_reads g f l (At e) x = got (space_moves g f x.0 x.1)
-space_reads {t = t} {a = a} g f l (Bad k) x = rw x.0 (stuck_here (good_space g) t a l (λ u h p. x.1 (of_local (agree_sym h) (omega arith) p.piece.start)))
-space_reads g f l (Over k) x = absurd x
+pub space_reads : {K : Claim} {t : List ℕ} {a : ℕ} → Good K → Avoids is_space K → a ≤ length t → (r : Result ℕ Stop) → SpaceRead t a r → Reads (SpaceThen K) K t a r
+space_reads g f l (Ok e) x = got (space_moves g f x.0 x.1)
+space_reads {t = t} {a = a} g f l (Err (Bad k)) x = rw x.0 (stuck_here (good_space g) t a l (λ u h p. x.1 (of_local (agree_sym h) (omega arith) p.piece.start)))
+space_reads g f l (Err (Over k)) x = absurd x
 
 -- one byte of a class, or none
 pub good_maybe : {K : Claim} (class : ℕ → Bool) → Good K → Good (MaybeThen class K)
@@ -185,7 +179,7 @@ module _ {K : Claim} {t : List ℕ} {a : ℕ} (g : Good K) (f : Avoids is_name_b
       low j n l k u h {b} y (behind_it q) = let w = g.behind b j n u q in let z = same (limit j n) u n h (inr (omega arith)) y q in omega arith
       low j n l k u h y (in_it q w) = omega (arith, x.short, w.1)
 
-  name_long : {k : ℕ} → NameLong t a k → Reads (NameThen K) K t a (Over k)
+  name_long : {k : ℕ} → NameLong t a k → Reads (NameThen K) K t a (Err (Over k))
   name_long {k} x = over {k = k} (exceeds_by g t a k (suc k) (omega (arith, x.long)) (omega arith) x.goes_on.within passes) (record { none = λ j n l o u h p. low j n l o u h p.piece p.rest })
     where
       passes : (u : List ℕ) → Agree t u (suc k) → K (suc k) plain u → NameThen K a (limit k (suc k)) u
@@ -201,7 +195,7 @@ module _ {K : Claim} {t : List ℕ} {a : ℕ} (g : Good K) (f : Avoids is_name_b
       low j n l o u h {b} y (behind_it q) = let w = g.behind b j n u q in let z = span_longer x.rest y.rest (f.free_of b (limit j n) u q) h (omega arith) in omega arith
       low j n l o u h y (in_it q w) = omega (arith, x.long, w.1)
 
-  pub name_reads : a ≤ length t → (r : Step) → NameRead t a r → Reads (NameThen K) K t a r
-  name_reads l (At e) x = got (name_got x)
-  name_reads l (Bad k) x = rw x.0 (stuck_here (good_name g) t a l (λ u h p. x.1 (of_local (agree_sym h) (omega arith) p.piece.start)))
-  name_reads l (Over k) x = name_long x
+  pub name_reads : a ≤ length t → (r : Result ℕ Stop) → NameRead t a r → Reads (NameThen K) K t a r
+  name_reads l (Ok e) x = got (name_got x)
+  name_reads l (Err (Bad k)) x = rw x.0 (stuck_here (good_name g) t a l (λ u h p. x.1 (of_local (agree_sym h) (omega arith) p.piece.start)))
+  name_reads l (Err (Over k)) x = name_long x

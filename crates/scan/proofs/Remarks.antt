@@ -1,18 +1,13 @@
 -- The moves through a comment. Assumes nothing.
-use Prim.Native.Nat.{ℕ, suc, ◌≤◌}
+use Rattle.std.proofs.Common.{ℕ, suc, ◌≤◌, ◌≡◌, refl, ap, Bool, List, arith, length, Err}
 use Prim.Native.Char.{code}
-use mathlib.Core.Path.{◌≡◌, refl, ap}
-use mathlib.Core.Bool.{Bool}
-use mathlib.Core.List.{List}
-use native.Mathlib.Omega.{arith}
-use lib.ListN.{length}
 use Rattle.grammar.specs.Bytes.{ascii, is_no_dash, Byte, Of, Literal, byte}
 use Rattle.grammar.specs.Grammar.{Remark, ends, no_dash, one_dash}
 use Rattle.grammar.proofs.Pieces.{off, literal_start}
 use Rattle.scan.specs.Steps.Agree.{Agree}
 use Rattle.scan.specs.Steps.Claims.{Mode, Claim, Piece, Or, this, that, LiteralThen, FromItems, FromRemark}
 use Rattle.scan.specs.Steps.Moves.{Moves, Reads}
-use Rattle.scan.specs.declared.Step.TheVariants.{Bad}
+use Rattle.scan.specs.declared.Stop.TheVariants.{Bad}
 use Rattle.scan.proofs.Agreeing.{agree_sym, byte_local, of_local}
 use Rattle.scan.proofs.Moving.{Good, stuck_here, turn, step, good_piece, good_or}
 use Rattle.scan.proofs.Pieces.{good_literal}
@@ -61,7 +56,7 @@ module _ (seen : Bool) {t : List ℕ} {a : ℕ} where
       go m u g (no_dash o r) q = absurd (off g refl o)
       go m u g (one_dash h o r) q = that (record { end = suc (suc a); piece = record { is = o; end = refl }; rest = record { end = _; piece = r; rest = q } })
 
-  pub remark_stuck : {Q : Claim} → a ≤ length t → ¬ Of is_no_dash t a → ¬ Byte t a (code "-") → Reads (FromRemark seen) Q t a (Bad a)
+  pub remark_stuck : {Q : Claim} → a ≤ length t → ¬ Of is_no_dash t a → ¬ Byte t a (code "-") → Reads (FromRemark seen) Q t a (Err (Bad a))
   remark_stuck l f g = stuck_here (good_remark seen) t a l (λ u h p. go u h p.piece)
     where
       go : (u : List ℕ) → Agree t u (suc a) → {b : ℕ} → Remark u a b → ⊥

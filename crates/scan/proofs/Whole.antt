@@ -1,12 +1,5 @@
 -- From the claims of a whole text to numbers 20 and 21. Assumes nothing.
-use Prim.Native.Nat.{ℕ, zero, suc, ◌+◌, ◌≤◌, ◌<◌, min}
-use mathlib.Core.Path.{◌≡◌, refl, sym, ◌∙◌, ap, subst}
-use mathlib.Core.Logic.{◌⊎◌, inl, inr}
-use mathlib.Core.Bool.{false}
-use mathlib.Core.List.{List, [], ◌∷◌, ◌++◌}
-use native.Mathlib.Omega.{arith}
-use lib.ListN.{length, take, drop, length-take}
-use lib.Seq.{take_all}
+use Rattle.std.proofs.Common.{ℕ, zero, suc, ◌+◌, ◌≤◌, ◌<◌, min, ◌≡◌, refl, sym, ◌∙◌, ap, subst, ◌⊎◌, inl, inr, false, List, [], ◌∷◌, ◌++◌, arith, length, take, drop, length-take, take_all, Result, Ok, Err}
 use Rattle.grammar.specs.Tree.{Particle, Particles, name, choice, sequence, last, more, Use, Nth, first, later, Content, is-empty, is_text, is_any, is_mixed, is_children, Declaration, uses_in, uses_in_all, uses_of}
 use Rattle.grammar.specs.Grammar.{Text, Items}
 use Rattle.grammar.specs.Stops.{Viable, Stops, at_byte, at_end}
@@ -17,12 +10,12 @@ use Rattle.scan.specs.Steps.Scanned.{Stopped, Passed, Read, Scanned}
 use Rattle.scan.specs.Steps.Agree.{peek, Agree}
 use Rattle.scan.specs.Steps.Items.{Nothing, EndsAt, ItemsRead}
 use Rattle.scan.specs.Steps.Readers.{place_of}
-use Rattle.scan.specs.declared.Step.{Step}
-use Rattle.scan.specs.declared.Step.TheVariants.{At, Bad, Over}
+use Rattle.scan.specs.declared.Stop.{Stop}
+use Rattle.scan.specs.declared.Stop.TheVariants.{Bad, Over}
 use Rattle.scan.specs.Steps.Claims.{plain, limit, LongAt, WideAt, WideIn, LongIn, ContentLimit, DeclarationLimit, InSome, Enough, FromItems}
 use Rattle.scan.specs.Steps.Moves.{Stuck, Exceeds, Free, Moves, Reads, got, bad, over}
 use Rattle.scan.proofs.Agreeing.{peek_end, peek_take, agree_same, agree_less, begins_so, agree_so}
-use Rattle.scan.proofs.Readings.{reads_at}
+use Rattle.scan.proofs.Readings.{reads_moves}
 
 -- a used name of over 32 bytes
 record Long (us : List Use) (j n : ℕ) : Type 0 where
@@ -241,8 +234,8 @@ module _ (t p : List ℕ) (n : ℕ) (cut : n ≡ min (length t) 65538) (is : p �
   ]
 
   -- an answer within the first 65,536 bytes, and one behind them
-  pub scanned : (r : Step) → place_of r ≤ 65536 → ItemsRead p r → Scanned t r
-  scanned (At e) l x = (omega (arith, x.ends, p_length), text_of (reads_at refl x.read))
+  pub scanned : (r : Result ℕ Stop) → place_of r ≤ 65536 → ItemsRead p r → Scanned t r
+  scanned (Ok e) l x = (omega (arith, x.ends, p_length), text_of (reads_moves x.read))
     where
       all : p ≡ t
       all = is ∙ take_all n t (omega (arith, x.ends, p_length))
@@ -259,26 +252,26 @@ module _ (t p : List ℕ) (n : ℕ) (cut : n ≡ min (length t) 65538) (is : p �
 
           go : FromItems false 0 plain p → Read t
           go y = from y.trees y.items y.enough
-  scanned (Bad k) l x = of x.read
+  scanned (Err (Bad k)) l x = of x.read
     where
-      of : Reads (FromItems false) Nothing p 0 (Bad k) → Stopped t k
+      of : Reads (FromItems false) Nothing p 0 (Err (Bad k)) → Stopped t k
       of (bad s f) = record { stops = stuck_stops l s; first = λ j h. free_not_over f j h (omega arith) }
-  scanned (Over k) l x = of x.read
+  scanned (Err (Over k)) l x = of x.read
     where
-      of : Reads (FromItems false) Nothing p 0 (Over k) → Passed t k
+      of : Reads (FromItems false) Nothing p 0 (Err (Over k)) → Passed t k
       of (over s f) = record {
         passes = exceeds_over s;
         first = λ j h. free_not_over f j h (omega arith);
         before = λ j h. no_stop (viable_of {k = s.size} (omega (arith, p_length, s.inside)) s.alike (plainly s.part)) (omega (arith, s.order));
       }
 
-  pub too_long : (r : Step) → 65536 < place_of r → ItemsRead p r → Passed t 65536
+  pub too_long : (r : Result ℕ Stop) → 65536 < place_of r → ItemsRead p r → Passed t 65536
   too_long r l x = go r l x.ends x.read
     where
       passed : {k : ℕ} → 65536 < k → Free (FromItems false) p 0 k → Viable t 65537 → Passed t 65536
       passed h f v = record { passes = long_text refl v.begins.inside; first = λ j i. free_not_over f j (omega arith) i; before = λ j i. no_stop v (omega arith) }
 
-      go : (r : Step) → 65536 < place_of r → EndsAt p r → Reads (FromItems false) Nothing p 0 r → Passed t 65536
-      go (At e) h y (got m) = passed h m.free (viable_of (omega (arith, y, p_length)) (agree_same p 65537) (m.up plain p (agree_same p e) (record { ended = y; no_limit = refl })))
-      go (Bad k) h y (bad s f) = passed h f (viable_of (omega (arith, s.inside, p_length)) (agree_less (omega arith) s.alike) s.part)
-      go (Over k) h y (over s f) = passed h f (viable_of (omega (arith, s.order, s.inside, p_length)) (agree_less (omega (arith, s.order)) s.alike) (plainly s.part))
+      go : (r : Result ℕ Stop) → 65536 < place_of r → EndsAt p r → Reads (FromItems false) Nothing p 0 r → Passed t 65536
+      go (Ok e) h y (got m) = passed h m.free (viable_of (omega (arith, y, p_length)) (agree_same p 65537) (m.up plain p (agree_same p e) (record { ended = y; no_limit = refl })))
+      go (Err (Bad k)) h y (bad s f) = passed h f (viable_of (omega (arith, s.inside, p_length)) (agree_less (omega arith) s.alike) s.part)
+      go (Err (Over k)) h y (over s f) = passed h f (viable_of (omega (arith, s.order, s.inside, p_length)) (agree_less (omega (arith, s.order)) s.alike) (plainly s.part))

@@ -4,61 +4,34 @@ ghost use Rattle.grammar.specs.Bytes.{is_space, is_name_start, is_name_byte, is_
 ghost use Rattle.scan.specs.Steps.Classes.{class_of};
 ghost use Rattle.scan.specs.Steps.Readers.{Tells};
 
-fn or(a: bool, b: bool) -> bool
-    ensures { result ≡ (a || b) }
-{
-    if a { true } else { b }
-}
-
-fn and(a: bool, b: bool) -> bool
-    ensures { result ≡ (a && b) }
-{
-    if a { b } else { false }
-}
-
-fn within(low: u8, b: u8, high: u8) -> bool
-    ensures { result ≡ (leb low b && leb b high) }
-{
-    and(low <= b, b <= high)
-}
-
 fn is_space(b: u8) -> bool
     ensures { result ≡ is_space b }
 {
-    or(
-        b == b' ',
-        or(b == b'\t', or(b == b'\r', or(b == b'\n', false))),
-    )
+    b == b' ' || b == b'\t' || b == b'\r' || b == b'\n'
 }
 
 fn is_name_start(b: u8) -> bool
     ensures { result ≡ is_name_start b }
 {
-    or(
-        or(b == b':', or(b == b'_', false)),
-        or(within(b'A', b, b'Z'), within(b'a', b, b'z')),
-    )
+    b == b':' || b == b'_' || b.is_ascii_alphabetic()
 }
 
 fn is_name_byte(b: u8) -> bool
     ensures { result ≡ is_name_byte b }
 {
-    or(
-        is_name_start(b),
-        or(or(b == b'-', or(b == b'.', false)), within(b'0', b, b'9')),
-    )
+    is_name_start(b) || b == b'-' || b == b'.' || b.is_ascii_digit()
 }
 
 fn is_mark(b: u8) -> bool
     ensures { result ≡ is_mark b }
 {
-    or(b == b'?', or(b == b'*', or(b == b'+', false)))
+    b == b'?' || b == b'*' || b == b'+'
 }
 
 fn is_no_dash(b: u8) -> bool
     ensures { result ≡ is_no_dash b }
 {
-    and(b <= 255, b != b'-')
+    b != b'-'
 }
 
 // White space, the first byte of a name, a byte of a name, a mark, any byte but '-'.
@@ -87,18 +60,12 @@ fn belongs(class: Class, b: u8) -> bool
 pub fn is_of(s: &[u8], at: usize, class: Class) -> bool
     ensures { Tells (Of (class_of class) s.now at) result }
 {
-    if at < s.len() {
-        return belongs(class, s[at]);
-    }
-    false
+    s.get(at).is_some_and(|b| belongs(class, *b))
 }
 
 // This byte stands at the place.
 pub fn is(s: &[u8], at: usize, b: u8) -> bool
     ensures { Tells (Byte s.now at b) result }
 {
-    if at < s.len() {
-        return s[at] == b;
-    }
-    false
+    s.get(at) == Some(&b)
 }

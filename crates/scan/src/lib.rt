@@ -2,7 +2,7 @@
 #![tactic(auto)]
 
 ghost use Rattle.scan.specs.Steps.Scanned.{Scanned};
-ghost use Rattle.std.specs.Prelude.{min, ◌≡◌};
+ghost use Rattle.std.specs.Prelude.{◌≡◌};
 ghost use Rattle.scan.specs.Steps.Readers.{place_of};
 
 pub mod bytes;
@@ -10,41 +10,30 @@ mod group;
 mod item;
 pub mod piece;
 
-// Where a part of the text ends; the first byte that cannot stand in it; the byte at which it passes a limit.
-#[derive(Clone, Copy)]
-pub enum Step {
-    At(usize),
+// Why a part of the text does not end: the first byte that cannot stand in it, or the byte at which it passes a limit.
+#[derive(Clone, Copy, PartialEq, Eq)]
+pub enum Stop {
     Bad(usize),
     Over(usize),
 }
 
-fn place(r: Step) -> usize
+fn place(r: Result<usize, Stop>) -> usize
     ensures { result ≡ place_of r }
 {
     match r {
-        Step::At(e) => e,
-        Step::Bad(k) => k,
-        Step::Over(k) => k,
+        Ok(e) => e,
+        Err(Stop::Bad(k) | Stop::Over(k)) => k,
     }
-}
-
-fn least(a: usize, b: usize) -> usize
-    ensures { result ≡ min a b }
-{
-    if a < b {
-        return a;
-    }
-    b
 }
 
 // Scans a whole text: 20's place, 21's, or neither. Byte 65,536 is one too many, and ANY that begins before it ends at most two bytes behind it.
-pub fn scan(s: &[u8]) -> Step
+pub fn scan(s: &[u8]) -> Result<usize, Stop>
     ensures { Scanned s.now result }
 {
-    let n = least(s.len(), 65538);
-    let r = item::items(&s[0..n]);
+    let n = s.len().min(65538);
+    let r = item::items(&s[..n]);
     if place(r) > 65536 {
-        return Step::Over(65536);
+        return Err(Stop::Over(65536));
     }
     r
 }

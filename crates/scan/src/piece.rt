@@ -3,7 +3,7 @@ ghost use Rattle.std.specs.Prelude.{◌≤◌, length};
 ghost use Rattle.grammar.specs.Bytes.{is_mark, is_name_start, Of};
 ghost use Rattle.scan.specs.Steps.Readers.{BlanksRead, SpaceRead, MaybeRead, NameRead, WordRead};
 
-use crate::Step;
+use crate::Stop;
 use crate::bytes::{Class, is, is_of};
 
 // White space from a place on, none or more.
@@ -11,22 +11,23 @@ pub fn blanks(s: &[u8], at: usize) -> usize
     requires { at ≤ length s.now }
     ensures { BlanksRead s.now at result }
 {
-    let mut i = at;
-    while is_of(s, i, Class::Space) {
-        i += 1;
+    for i in at..s.len() {
+        if !is_of(s, i, Class::Space) {
+            return i;
+        }
     }
-    i
+    s.len()
 }
 
 // White space, one byte or more.
-pub(crate) fn space(s: &[u8], at: usize) -> Step
+pub(crate) fn space(s: &[u8], at: usize) -> Result<usize, Stop>
     requires { at ≤ length s.now }
     ensures { SpaceRead s.now at result }
 {
     if is_of(s, at, Class::Space) {
-        return Step::At(blanks(s, at + 1));
+        return Ok(blanks(s, at + 1));
     }
-    Step::Bad(at)
+    Err(Stop::Bad(at))
 }
 
 // '?', '*' or '+', or none.
@@ -40,44 +41,42 @@ pub fn mark(s: &[u8], at: usize) -> usize
 }
 
 // The bytes of a word, or the first place at which they do not stand.
-pub(crate) fn word(s: &[u8], at: usize, w: &[u8]) -> Step
+pub(crate) fn word(s: &[u8], at: usize, w: &[u8]) -> Result<usize, Stop>
     requires { at ≤ length s.now }
     ensures { WordRead s.now w.now at result }
 {
     let mut i = at;
-    let mut k = 0;
-    while k < w.len() {
-        if is(s, i, w[k]) {
-            i += 1;
-            k += 1;
-        } else {
-            return Step::Bad(i);
-        }
-    }
-    Step::At(i)
-}
-
-// A name whose first byte is one of a name.
-fn name_rest(s: &[u8], at: usize) -> Step
-    requires { Of is_name_start s.now at }
-    ensures { NameRead s.now at result }
-{
-    let mut i = at + 1;
-    while is_of(s, i, Class::Name) {
-        if i - at == 32 {
-            return Step::Over(i);
+    for b in w {
+        if !is(s, i, *b) {
+            return Err(Stop::Bad(i));
         }
         i += 1;
     }
-    Step::At(i)
+    Ok(i)
+}
+
+// A name whose first byte is one of a name.
+fn name_rest(s: &[u8], at: usize) -> Result<usize, Stop>
+    requires { Of is_name_start s.now at }
+    ensures { NameRead s.now at result }
+{
+    for i in at + 1..s.len() {
+        if !is_of(s, i, Class::Name) {
+            return Ok(i);
+        }
+        if i - at == 32 {
+            return Err(Stop::Over(i));
+        }
+    }
+    Ok(s.len())
 }
 
 // A name.
-pub fn name(s: &[u8], at: usize) -> Step
+pub fn name(s: &[u8], at: usize) -> Result<usize, Stop>
     ensures { NameRead s.now at result }
 {
     if is_of(s, at, Class::Start) {
         return name_rest(s, at);
     }
-    Step::Bad(at)
+    Err(Stop::Bad(at))
 }

@@ -9,7 +9,6 @@ ghost use Rattle.stream.specs.Advances.{Advances};
 use std::io;
 use std::io::Read;
 use table::Found;
-use table::words::lesser;
 
 // Reads until the buffer is full or the reader ends, and answers how many bytes now stand at the buffer's start.
 pub fn read_full<R: Read>(reader: &mut R, buffer: &mut [u8]) -> io::Result<usize>
@@ -20,6 +19,7 @@ pub fn read_full<R: Read>(reader: &mut R, buffer: &mut [u8]) -> io::Result<usize
     ensures length { length buffer.new ≡ length buffer.old }
 {
     let mut filled = 0;
+    // A while: the place moves on by as many as a read gave.
     while filled < buffer.len() {
         let n = reader.read(&mut buffer[filled..])?;
         if n == 0 {
@@ -30,20 +30,34 @@ pub fn read_full<R: Read>(reader: &mut R, buffer: &mut [u8]) -> io::Result<usize
     Ok(filled)
 }
 
-fn wide(byte: u8) -> usize {
-    byte as usize
+// What a run is made of: a number of one, two or four bytes, low byte first. Behind the end stands 0.
+trait Readable: Copy {
+    fn next<R: Read>(reader: &mut R) -> io::Result<Self>
+        ensures { Advances (R.remaining reader.old) (R.remaining reader.new) };
 }
 
-fn joined(low: u8, high: u8) -> u16 {
-    (low as u16) + 256 * (high as u16)
+impl Readable for u8 {
+    fn next<R: Read>(reader: &mut R) -> io::Result<u8> {
+        let mut one = [0u8; 1];
+        read_full(reader, &mut one)?;
+        Ok(one[0])
+    }
 }
 
-fn length_of(low: u16, high: u16) -> usize {
-    (low as usize) + 65536 * (high as usize)
+impl Readable for u16 {
+    fn next<R: Read>(reader: &mut R) -> io::Result<u16> {
+        let mut two = [0u8; 2];
+        read_full(reader, &mut two)?;
+        Ok(u16::from_le_bytes(two))
+    }
 }
 
-fn number_of(low: u16, high: u16) -> u32 {
-    (low as u32) + 65536 * (high as u32)
+impl Readable for u32 {
+    fn next<R: Read>(reader: &mut R) -> io::Result<u32> {
+        let mut four = [0u8; 4];
+        read_full(reader, &mut four)?;
+        Ok(u32::from_le_bytes(four))
+    }
 }
 
 // The kind of the next case, or nothing at the end.
@@ -54,7 +68,7 @@ pub fn next_kind<R: Read>(reader: &mut R) -> io::Result<Found>
     if read_full(reader, &mut one)? < 1 {
         return Ok(Found::Nothing);
     }
-    Ok(Found::At(wide(one[0])))
+    Ok(Found::At(usize::from(one[0])))
 }
 
 // The length of the next run, or nothing at the end.
@@ -65,7 +79,7 @@ pub fn next_run<R: Read>(reader: &mut R) -> io::Result<Found>
     if read_full(reader, &mut four)? < 4 {
         return Ok(Found::Nothing);
     }
-    Ok(Found::At(length_of(joined(four[0], four[1]), joined(four[2], four[3]))))
+    Ok(Found::At(u32::from_le_bytes(four) as usize))
 }
 
 // The length of the next run, 0 at the end.
@@ -78,29 +92,28 @@ pub fn next_length<R: Read>(reader: &mut R) -> io::Result<usize>
     }
 }
 
-// The next byte, 0 at the end.
-fn next_byte<R: Read>(reader: &mut R) -> io::Result<u8>
-    ensures { Advances (R.remaining reader.old) (R.remaining reader.new) }
-{
-    let mut one = [0u8; 1];
-    read_full(reader, &mut one)?;
-    Ok(one[0])
-}
-
-// The next word, low byte first.
-fn next_word<R: Read>(reader: &mut R) -> io::Result<u16>
-    ensures { Advances (R.remaining reader.old) (R.remaining reader.new) }
-{
-    let low = next_byte(reader)?;
-    Ok(joined(low, next_byte(reader)?))
-}
-
 // The next 32-bit number, low byte first, 0 at the end.
 pub fn next_number<R: Read>(reader: &mut R) -> io::Result<u32>
     ensures { Advances (R.remaining reader.old) (R.remaining reader.new) }
 {
-    let low = next_word(reader)?;
-    Ok(number_of(low, next_word(reader)?))
+    u32::next(reader)
+}
+
+// Reads this many items, or as many as there is room for.
+fn read_items<T: Readable, R: Read>(
+    reader: &mut R,
+    count: usize,
+    items: &mut [T],
+) -> io::Result<usize>
+    ensures within { IfOk result (λ n. n ≤ length items.new) }
+    ensures length { length items.new ≡ length items.old }
+    ensures read { Advances (R.remaining reader.old) (R.remaining reader.new) }
+{
+    let n = count.min(items.len());
+    for item in items[..n].iter_mut() {
+        *item = T::next(reader)?;
+    }
+    Ok(n)
 }
 
 // Reads this many words, or as many as there is room for.
@@ -109,11 +122,7 @@ pub fn read_words<R: Read>(reader: &mut R, count: usize, words: &mut [u16]) -> i
     ensures length { length words.new ≡ length words.old }
     ensures read { Advances (R.remaining reader.old) (R.remaining reader.new) }
 {
-    let n = lesser(count, words.len());
-    for word in words[..n].iter_mut() {
-        *word = next_word(reader)?;
-    }
-    Ok(n)
+    read_items(reader, count, words)
 }
 
 // Reads this many 32-bit numbers, or as many as there is room for.
@@ -122,11 +131,7 @@ pub fn read_numbers<R: Read>(reader: &mut R, count: usize, numbers: &mut [u32]) 
     ensures length { length numbers.new ≡ length numbers.old }
     ensures read { Advances (R.remaining reader.old) (R.remaining reader.new) }
 {
-    let n = lesser(count, numbers.len());
-    for number in numbers[..n].iter_mut() {
-        *number = next_number(reader)?;
-    }
-    Ok(n)
+    read_items(reader, count, numbers)
 }
 
 // Reads this many bytes, or as many as there is room for.
@@ -135,9 +140,5 @@ pub fn read_bytes<R: Read>(reader: &mut R, count: usize, run: &mut [u8]) -> io::
     ensures length { length run.new ≡ length run.old }
     ensures read { Advances (R.remaining reader.old) (R.remaining reader.new) }
 {
-    let n = lesser(count, run.len());
-    for byte in run[..n].iter_mut() {
-        *byte = next_byte(reader)?;
-    }
-    Ok(n)
+    read_items(reader, count, run)
 }

@@ -1,7 +1,7 @@
 -- The answer of a table check: there is one for each run of words, and number 0 means an accepted table. Assumes nothing.
 use Prim.Native.Nat.{ℕ, suc, ◌+◌, ◌≤◌, ◌<◌}
 use mathlib.Core.Path.{◌≡◌, refl, sym, ap, ◌∙◌}
-use mathlib.Core.Logic.{◌⊎◌, inl, inr}
+use mathlib.Core.Logic.{◌⊎◌, inl, inr, ◌≢◌}
 use mathlib.Core.List.{List, [], ◌∷◌}
 use native.Mathlib.Nat.{eq-or-lt_of_le}
 use native.Mathlib.Omega.{arith}
@@ -9,6 +9,10 @@ use lib.ListN.{get_or}
 use Rattle.table.specs.Lowest.{LowestAt}
 use Rattle.table.specs.Privilege.{privileges}
 use Rattle.table.specs.Check.{number_of, rank_of, Passes, Refused, Accepted, TableAnswer, refused, accepted}
+use Rattle.table.specs.Refusals as refusals
+use Rattle.table.specs.declared.refusal.Refusal.{Refusal}
+use Rattle.table.specs.declared.refusal.Refusal.TheVariants.{Table, NewTable, MarksLength, NoPrivilege, Mark, ResultLength, ProposedLength, ProposedMark, ProposedSpareBit, Change, NumbersLength, NewNumber, NoText, TooLarge, Misnamed, BothSet, SpareBit, NoLine, NotAbove, RefusedSheet, SumTooLarge}
+use Rattle.table.specs.declared.check.TheConstants.{CHECKS}
 use Rattle.table.specs.declared.check.Check.{Check}
 use Rattle.table.specs.declared.check.Check.TheVariants.{Format, Layout, Kind, Count, Stretch, Bounds, Twice, Cycle, Unreached, Total}
 use Rattle.table.proofs.Lists.{le_or_lt}
@@ -34,6 +38,10 @@ check_of_lem Total = refl
 pub check_rank : (k : ℕ) → k < 10 → rank_of (check_of (k + 1)) ≡ k + 1
 check_rank = (every 10 (λ k. is_equal (rank_of (check_of (k + 1))) (k + 1))).out tt
 
+-- the checks stand in the order of their ranks
+pub rank_at : (k : ℕ) → k < 10 → rank_of (get_or CHECKS k Format) ≡ k + 1
+rank_at = (every 10 (λ k. is_equal (rank_of (get_or CHECKS k Format)) (k + 1))).out tt
+
 pub rank_inj : (c d : Check) → rank_of c ≡ rank_of d → c ≡ d
 rank_inj c d e = sym (check_of_lem c) ∙ ap check_of e ∙ check_of_lem d
 
@@ -48,6 +56,33 @@ number_some Twice = omega arith
 number_some Cycle = omega arith
 number_some Unreached = omega arith
 number_some Total = omega arith
+
+-- a refusal's number is not 0
+pub refusal_some : (r : Refusal) → 1 ≤ refusals.number_of r
+refusal_some (Table c _) = omega (arith, number_some c)
+refusal_some (NewTable c _) = omega arith
+refusal_some MarksLength = omega arith
+refusal_some NoPrivilege = omega arith
+refusal_some (Mark _) = omega arith
+refusal_some ResultLength = omega arith
+refusal_some ProposedLength = omega arith
+refusal_some (ProposedMark _) = omega arith
+refusal_some ProposedSpareBit = omega arith
+refusal_some (Change _) = omega arith
+refusal_some NumbersLength = omega arith
+refusal_some (NewNumber _) = omega arith
+refusal_some (NoText _) = omega arith
+refusal_some (TooLarge _) = omega arith
+refusal_some (Misnamed _) = omega arith
+refusal_some (BothSet _) = omega arith
+refusal_some SpareBit = omega arith
+refusal_some (NoLine _) = omega arith
+refusal_some (NotAbove _) = omega arith
+refusal_some (RefusedSheet _) = omega arith
+refusal_some (SumTooLarge _) = omega arith
+
+pub refusal_not : (r : Refusal) → refusals.number_of r ≢ 0
+refusal_not r e = omega (arith, refusal_some r, e)
 
 pub rank_range : (c : Check) → (1 ≤ rank_of c) × (rank_of c < 11)
 rank_range Format = omega arith

@@ -5,21 +5,8 @@ use mathlib.Core.Logic.{◌≢◌}
 use mathlib.Core.List.{List}
 use native.Mathlib.Omega.{arith}
 use Rattle.table.specs.Words.{types, count_at, first_at, running}
-use Rattle.table.specs.Check.{RightCount, Follows}
+use Rattle.table.specs.Check.{Follows}
 use Rattle.table.proofs.Sum.{sum_more}
-
-module _ {count : ℕ} where
-  pub right_none : (kind : ℕ) → kind < 2 → RightCount kind count → count ≡ 0
-  right_none zero h r = r.empty refl
-  right_none (suc zero) h r = r.text refl
-  right_none (suc (suc k)) h r = absurd (omega arith)
-
-  pub right_some : (kind : ℕ) → 2 ≤ kind → kind < 4 → RightCount kind count → (1 ≤ count) × (count ≤ 16)
-  right_some zero g h r = absurd (omega arith)
-  right_some (suc zero) g h r = absurd (omega arith)
-  right_some (suc (suc zero)) g h r = r.sequence refl
-  right_some (suc (suc (suc zero))) g h r = r.choice refl
-  right_some (suc (suc (suc (suc k)))) g h r = absurd (omega arith)
 
 -- the running index past a type whose children follow on
 pub running_next : (ws : List ℕ) (t : ℕ) → t < types ws → Follows ws t → first_at ws t + count_at ws t ≡ running ws (t + 1)
@@ -38,11 +25,3 @@ last_rank (suc (suc (suc (suc (suc (suc (suc zero))))))) h d = absurd (d.6 refl)
 last_rank (suc (suc (suc (suc (suc (suc (suc (suc zero)))))))) h d = absurd (d.7 refl)
 last_rank (suc (suc (suc (suc (suc (suc (suc (suc (suc zero))))))))) h d = absurd (d.8 refl)
 last_rank (suc (suc (suc (suc (suc (suc (suc (suc (suc (suc n)))))))))) h d = omega arith
-
-pub few_children : (kind count : ℕ) → kind ≤ 4 → RightCount kind count → count ≤ 16
-few_children zero n h r = omega (arith, r.empty refl)
-few_children (suc zero) n h r = omega (arith, r.text refl)
-few_children (suc (suc zero)) n h r = (r.sequence refl).1
-few_children (suc (suc (suc zero))) n h r = (r.choice refl).1
-few_children (suc (suc (suc (suc zero)))) n h r = omega (arith, r.star refl)
-few_children (suc (suc (suc (suc (suc k))))) n h r = absurd (omega arith)

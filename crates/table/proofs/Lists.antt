@@ -5,9 +5,8 @@ use mathlib.Core.Logic.{◌⊎◌, inl, inr}
 use mathlib.Core.List.{List, []}
 use native.Mathlib.Omega.{arith}
 use native.Mathlib.Nat.{eq-or-lt_of_le}
-use lib.ListN.{length, get_or, set, take, drop, length-drop, drop_of_length-le, get_or-eq_default}
+use lib.ListN.{length, get_or, set, take, drop, length-drop, drop_of_length-le}
 use lib.Seq.{take_all, take-nil, get_or-set_same, get_or-set_other}
-use Rattle.table.specs.Steps.Reading.{Widened}
 
 pub le_or_lt : (a b : ℕ) → (a ≤ b) ⊎ (b < a)
 le_or_lt zero b = inl (omega arith)
@@ -33,10 +32,6 @@ stretch_within ws a b s e he hs = go (le_or_lt a e) (le_or_lt b (length ws))
     go (inr h) (inr k) =
         let x : drop a ws ≡ [] = drop_of_length-le ws {i = a} (omega arith) in
         none (e - s) s (omega arith) ∙ sym (rw x (take-nil (b - a)))
-
--- past the end of a run stands 0
-pub past_end : (ws : List ℕ) (i : ℕ) → length ws ≤ i → Widened (get_or ws i 0) 0
-past_end ws i h = record { is = sym (get_or-eq_default ws 0 h); small = omega arith }
 
 -- a list that is written from the front: one more place holds what it should
 pub fill_more : (P : ℕ → ℕ → Type 0) (l : List ℕ) (k v : ℕ) → k < length l → ((j : ℕ) → j < k → P j (get_or l j 0)) → P k v

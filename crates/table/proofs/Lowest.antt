@@ -76,8 +76,3 @@ pub tells_all_more : (Good : ℕ → Type 0) (i : ℕ) (r b : Bool) → Tells ((
 tells_all_more Good i true true h g = below_more _ _ h g
 tells_all_more Good i true false h g = λ all. g (all i (omega arith))
 tells_all_more Good i false b h g = λ all. h (λ k l. all k (omega arith))
-
--- the other flag
-pub tells_not : (P : Type 0) (r : Bool) → Tells P r → Tells (¬ P) (not r)
-tells_not P true h = λ f. f h
-tells_not P false h = h

@@ -30,17 +30,6 @@ pub record AddedSoFar (kids : List ℕ) (i : ℕ) (marks order : List ℕ) (n : 
   pub added : (k : ℕ) → n ≤ k → k < r → Among kids (length kids) (get_or order-now k 0)
   pub all : (j : ℕ) → j < i → get_or marks-now (get_or kids j 0) 0 ≡ 1
 
-pub add_start : {n : ℕ} {kids marks order : List ℕ} → Flags n marks order → AddedSoFar kids 0 marks order n marks order n
-add_start f = record {
-  within = omega arith;
-  flags = f;
-  more = omega arith;
-  kept = λ k l. refl;
-  stay = λ x l h. h;
-  added = λ k l m. absurd (omega arith);
-  all = λ j l. absurd (omega arith);
-}
-
 module _ {n i r : ℕ} {kids marks order marks-now order-now : List ℕ} (s : AddedSoFar kids i marks order n marks-now order-now r)
     (l : i < length kids) {c : ℕ} (is : c ≡ get_or kids i 0) (low : c < 256) where
   -- it is marked already
@@ -114,17 +103,6 @@ module _ {n i r : ℕ} {kids marks order marks-now order-now : List ℕ} (s : Ad
         go : (j : ℕ) → (suc j ≡ i + 1) ⊎ (suc j < i + 1) → get_or (set marks-now c 1) (get_or kids j 0) 0 ≡ 1
         go j (inl q) = let z : j ≡ i = omega arith in rw (z, ← is) mark_here
         go j (inr m) = marked (get_or kids j 0) (s.all j (omega arith))
-
-pub add_all : {n i r : ℕ} {kids marks order marks-now order-now : List ℕ} → AddedSoFar kids i marks order n marks-now order-now r → length kids ≤ i
-    → Added kids marks order n marks-now order-now r
-add_all s l = record {
-  flags = s.flags;
-  more = s.more;
-  kept = s.kept;
-  stay = s.stay;
-  added = s.added;
-  all = λ i h. s.all i (omega arith);
-}
 
 -- those listed are types below one of the types given; the children of the first head of them are marked, and so are the types given
 pub record Marking (ws from : List ℕ) (head : ℕ) (marks order : List ℕ) (n : ℕ) : Type 0 where

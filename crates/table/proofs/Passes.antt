@@ -11,7 +11,7 @@ use Rattle.table.specs.Rule.{children_at}
 use Rattle.table.specs.Steps.Childed.{Childed}
 use Rattle.table.specs.Steps.Counts.{Counts, turned, Taking, Filling}
 use Rattle.table.proofs.Listings.{listed_keeps, turned_length, turned_at, turned_set}
-use Rattle.table.proofs.Takings.{take_start, child_low, count_some, pass_end, pass_keep, pass_take, room_child}
+use Rattle.table.proofs.Takings.{take_start, count_some, pass_end, pass_keep, pass_take, room_child}
 
 -- the root stands at the last place
 pub filling_start : {ws counts : List ℕ} (order : List ℕ) {place r : ℕ} → Childed ws → Counts ws counts → length order ≡ 256 → r ≡ root ws → get_or counts r 0 ≡ 0 → place ≡ types ws
@@ -79,9 +79,6 @@ module _ {ws kids counts order : List ℕ} {place i free : ℕ} (g : Childed ws)
 
     kid_is : c ≡ get_or (children_at ws (get_or (turned order (types ws)) (types ws - (place + 1)) 0)) i 0
     kid_is = is ∙ ap (λ (l : List ℕ). get_or l i 0) p.kids_are
-
-    pub passing_low : c < types ws
-    passing_low = child_low g p.taking there kid c kid_is
 
     pub passing_some : 1 ≤ get_or counts c 0
     passing_some = count_some g p.taking there kid c kid_is

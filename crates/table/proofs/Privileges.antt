@@ -13,7 +13,7 @@ use Rattle.table.specs.Sum.{sum_below}
 use Rattle.table.specs.Words.{format_of, types}
 use Rattle.table.specs.Rule.{rule_at, kind_in, count_in, count_of, IsText, IsChoice, IsStar}
 use Rattle.table.specs.Privilege.{gap_of, privileges_of, privileges_at, first_privilege, privileges, Belongs, slot_of, insert_of, delete_of, exchange_of, replace_of, SameKind, Exchangeable, Replaceable, Edit, text, insert, delete, exchange, replace, type_of, Offers, privilege_of}
-use Rattle.table.specs.Steps.Numbering.{others_of, choices_of, NumberedAs, Small, Positions, insert_in, delete_in, exchange_in, replace_in, width_in, row_in, missing_in, ExchangeableIn, ReplaceableIn}
+use Rattle.table.specs.Steps.Numbering.{others_of, choices_of, NumberedAs, Small, Positions, insert_in, delete_in, exchange_in, replace_in, row_in, missing_in, ExchangeableIn, ReplaceableIn}
 use Rattle.table.specs.declared.privilege.Numbering.{Numbering}
 use Rattle.table.specs.declared.rule.Rule.{Rule}
 use Rattle.table.specs.declared.rule.Rule.TheVariants.{Empty, Text, Sequence, Choice, Star}
@@ -43,10 +43,6 @@ two_gap ws e = elim (ℕ_discrete (format_of ws) 2) [ yes h ↦ h | no d ↦ abs
 -- the privileges of a rule, counted by the square of the children that can be replaced, less those of the same kind
 pub square_few : (n : ℕ) → n < 65536 → n * n ≤ 4294836225
 square_few n h = mul-le-mul {n₂ = 65535} {m₂ = 65535} (omega arith) (omega arith)
-
-pub square_more : (n : ℕ) → n ≤ n * n
-square_more zero = omega arith
-square_more (suc n) = omega (arith, mul-suc (suc n) n)
 
 pub choices_few : (r : Rule) → choices_of r ≤ count_in r
 choices_few Empty = omega arith
@@ -310,10 +306,6 @@ module _ (ws : List ℕ) where
   edit_one e f g h r =
       let q : type_of e ≡ type_of f = belongs_one (edit_belongs e g) (rw (← r) at (edit_belongs f h)) in
       edit_same e f g h (sym (offers_kind e g) ∙ ap (λ (x : ℕ). kind_in (rule_at ws x)) q ∙ offers_kind f h) q r
-
--- the numbering at a choice gives its replacements
-pub row_few : {n : Numbering} {i j : ℕ} → Positions n i j → i * width_in n ≤ 256
-row_few h = mul-le-mul {n₂ = 16} {m₂ = 16} (omega (arith, h.from, h.small.few)) (omega (arith, h.small.few))
 
 -- the replacements of the child at i stand side by side: by the kinds before the missing one, and by those behind it one place down
 pub row_before : (n : Numbering) (i j : ℕ) → n.gap ≤ 1 → j < missing_in n i → replace_in n i j ≡ row_in n i + j

@@ -7,23 +7,18 @@ use native.Mathlib.Nat.{add-sub_cancel_left}
 use native.Mathlib.Decide.{ℕ_discrete}
 use native.Mathlib.Omega.{arith}
 use borrow.Author.Count.{below_more}
-use lib.ListN.{length, get_or, set, take, drop, replicate, get_or-replicate, length-set, length-take}
+use lib.ListN.{length, get_or, set, take, drop, replicate, get_or-replicate, length-set}
 use lib.Seq.{get_or-set_same, get_or-set_other}
 use Rattle.table.specs.Sum.{sum_below}
 use Rattle.table.specs.Words.{types, kind_at, count_at, first_at, running}
 use Rattle.table.specs.Steps.Reading.{Within, Widened}
 use Rattle.table.specs.Rule.{rule_of, rule_at, children_at}
 use Rattle.table.specs.Privilege.{gap_of, privileges_of, privileges_at, first_privilege, privileges}
-use Rattle.table.specs.Check.{Headed, Laid, RightCount, Inside, Differ, Passes, Accepted}
-use Rattle.table.specs.Steps.Childed.{Childed}
+use Rattle.table.specs.Check.{RightCount, Inside, Differ}
 use Rattle.table.specs.Steps.Counts.{occurs, entries_of}
 use Rattle.table.specs.Steps.Accept.{Countable, Stamped, Totals, TypesPass}
-use Rattle.table.specs.Steps.Accepting.{Ordered}
-use Rattle.table.specs.declared.check.Check.{Check}
-use Rattle.table.specs.declared.check.Check.TheVariants.{Format, Layout, Kind, Count, Stretch, Bounds, Twice, Cycle, Unreached, Total}
 use Rattle.table.specs.declared.rule.Rule.{Rule}
 use Rattle.table.proofs.Children.{children_right}
-use Rattle.table.proofs.Checks.{few_children}
 use Rattle.table.proofs.Sum.{sum_more}
 use Rattle.table.proofs.Sums.{occurs_none, occurs_here, occurs_not, occurs_few}
 use Rattle.table.proofs.Privileges.{first_start, first_next}
@@ -139,10 +134,6 @@ module _ {ws : List ℕ} {n kind first count : ℕ} (r : Read ws n kind first co
         let same = children_right ws n (rw (← r.kind_is.is) r.low) (rw (← r.kind_is.is, ← r.count_is.is) r.right) in
         k ∙ rw (until, add-sub_cancel_left, se, te, r.first_is.is, r.count_is.is) (sym same)
 
-    -- there are at most 16
-    pub read_few : length kids ≤ 16
-    read_few = omega (arith, few_children kind count r.low r.right, ap length k ∙ length-take (stop - start) (drop start ws))
-
   pub read_privileges : {rule : Rule} {own : ℕ} → rule ≡ rule_of kind first count → Within 4294967296 (privileges_of (gap_of ws) rule) own
       → Within 4294967296 (privileges_at ws n) own
   unfolding privileges_at rule_at
@@ -231,23 +222,3 @@ module _ {ws stamps counts : List ℕ} {n index sum : ℕ} (s : TypesSoFar ws n 
 
       whole : sum ≡ first_privilege ws (types ws)
       whole = rw (← end) s.sum_is
-
--- what the pass hands on
-pub pass_childed : {ws counts : List ℕ} → Laid ws → TypesPass ws counts → Childed ws
-pass_childed laid p = record { tiled = record { laid = laid; kinds = p.kinds; counts = p.counts_right; follow = p.stretches }; inside = p.bounds; differ = p.twice }
-
--- where the types are ordered too, the table is accepted
-pub pass_accepted : {ws counts : List ℕ} → Headed ws → Laid ws → TypesPass ws counts → Ordered ws → Accepted ws
-pass_accepted {ws} headed laid p o = record { passes = go }
-  where
-    go : (check : Check) → Passes ws check
-    go Format = λ q l. headed
-    go Layout = λ q l. laid
-    go Kind = p.kinds
-    go Count = p.counts_right
-    go Stretch = p.stretches
-    go Bounds = p.bounds
-    go Twice = p.twice
-    go Cycle = o.off_cycle
-    go Unreached = o.reached
-    go Total = p.total

@@ -10,9 +10,7 @@ use Rattle.table.specs.Rule.{rule_at, kind_in, count_of, children_at, OfKind}
 use Rattle.table.specs.Privilege.{privileges_at, first_privilege, privileges, Belongs, Exchangeable, Replaceable}
 use Rattle.table.specs.Check.{Headed, Laid, RightCount, Follows, Inside, Differ, Counted, Holds}
 use Rattle.table.specs.Check.{places_of, number_of, rank_of, Passes, TableAnswer, refused, accepted}
-use Rattle.table.specs.declared.Found.{Found}
-use Rattle.table.specs.declared.Found.TheVariants.{At, Nothing}
-use Rattle.table.specs.declared.Checked.{Checked}
+use Rattle.std.specs.Prelude.{Option, Some, None}
 use Rattle.table.specs.declared.check.Check.{Check}
 use Rattle.table.specs.declared.check.Check.TheVariants.{Format, Layout, Kind, Count, Stretch, Bounds, Twice, Cycle, Unreached, Total}
 use Rattle.table.proofs.Test.{Test, is_less, is_at_most, is_equal, both, either, fails, implies, means, every, lowest_of, lowest_of_lem}
@@ -98,12 +96,17 @@ holds ws Cycle t = off_cycle ws t
 holds ws Unreached t = reached ws t
 holds ws Total p = counted ws
 
+-- the number and the place of an answer
+pub record Checked : Type 0 where
+  pub number : ℕ
+  pub place : ℕ
+
 -- the answer, where the checks below a rank pass and `left` more are to be made
 abbrev answer_from : List ℕ → ℕ → ℕ → Checked
 answer_from ws zero rank = record { number = 0; place = privileges ws }
 answer_from ws (suc left) rank = elim (lowest_of (places_of ws (check_of rank)) (holds ws (check_of rank))) [
-  | At p ↦ record { number = number_of (check_of rank); place = p }
-  | Nothing ↦ answer_from ws left (rank + 1)
+  | Some p ↦ record { number = number_of (check_of rank); place = p }
+  | None ↦ answer_from ws left (rank + 1)
 ]
 
 abbrev pub answer_of : List ℕ → Checked
@@ -122,12 +125,12 @@ answer_from_lem ws (suc left) rank l e pass = go (lowest_of (places_of ws check)
     is : rank_of check ≡ rank
     is = let same : rank - 1 + 1 ≡ rank = omega arith in rw same at (check_rank (rank - 1) (omega arith))
 
-    go : (found : Found) → Lowest (Holds ws check) (places_of ws check) found
+    go : (found : Option ℕ) → Lowest (Holds ws check) (places_of ws check) found
         → (Passes ws check → TableAnswer ws (answer_from ws left (rank + 1)).number (answer_from ws left (rank + 1)).place)
-        → let answer : Checked = elim found [ At p ↦ record { number = number_of check; place = p } | Nothing ↦ answer_from ws left (rank + 1) ] in
+        → let answer : Checked = elim found [ Some p ↦ record { number = number_of check; place = p } | None ↦ answer_from ws left (rank + 1) ] in
         TableAnswer ws answer.number answer.place
-    go (At p) h rest = refused check refl (record { earlier = λ c k. pass c (omega (arith, is)); lowest = h })
-    go Nothing h rest = rest h
+    go (Some p) h rest = refused check refl (record { earlier = λ c k. pass c (omega (arith, is)); lowest = h })
+    go None h rest = rest h
 
 pub answer_of_lem : (ws : List ℕ) → TableAnswer ws (answer_of ws).number (answer_of ws).place
 answer_of_lem ws = answer_from_lem ws 10 1 (omega arith) refl (λ c l. absurd (omega (arith, rank_range c)))

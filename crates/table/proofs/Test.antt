@@ -9,8 +9,7 @@ use native.Mathlib.Omega.{arith}
 use borrow.Author.Count.{below_none}
 use lib.Dec.{T, ltb, leb, eqb, ltb→lt, lt→ltb, leb→le, le→leb, eqb→eq, eqb_refl, T_not, not_T}
 use Rattle.table.specs.Steps.Found.{Lowest}
-use Rattle.table.specs.declared.Found.{Found}
-use Rattle.table.specs.declared.Found.TheVariants.{At, Nothing}
+use Rattle.std.specs.Prelude.{Option, Some, None}
 
 -- the bit is true exactly if P holds
 pub record Test (P : Type 0) : Type 0 where
@@ -120,16 +119,16 @@ every n p = means (λ h i l. elim (settle (p i)) [ inl x ↦ x | inr f ↦ absur
     (fails (some n (λ i. fails (p i))))
 
 -- the lowest number below n at which Good fails
-abbrev pub lowest_of : {Good : ℕ → Type 0} (n : ℕ) → ((k : ℕ) → Test (Good k)) → Found
-lowest_of zero t = Nothing
-lowest_of (suc n) t = elim (lowest_of n t) [ At k ↦ At k | Nothing ↦ elim (t n).run [ true ↦ Nothing | false ↦ At n ] ]
+abbrev pub lowest_of : {Good : ℕ → Type 0} (n : ℕ) → ((k : ℕ) → Test (Good k)) → Option ℕ
+lowest_of zero t = None
+lowest_of (suc n) t = elim (lowest_of n t) [ Some k ↦ Some k | None ↦ elim (t n).run [ true ↦ None | false ↦ Some n ] ]
 
 pub lowest_of_lem : {Good : ℕ → Type 0} (n : ℕ) (t : (k : ℕ) → Test (Good k)) → Lowest Good n (lowest_of n t)
 lowest_of_lem zero t = below_none _
 lowest_of_lem {Good} (suc n) t = go (lowest_of n t) (lowest_of_lem n t) (t n).run (t n).out (t n).into
   where
-    go : (found : Found) → Lowest Good n found → (b : Bool) → (T b → Good n) → (Good n → T b)
-        → Lowest Good (suc n) (elim found [ At k ↦ At k | Nothing ↦ elim b [ true ↦ Nothing | false ↦ At n ] ])
-    go (At k) h b out into = record { within = omega (arith, h.within); fails = h.fails; before = h.before }
-    go Nothing h true out into = λ k l. elim (eq-or-lt_of_le l) [ inl e ↦ rw (suc_inj e) (out tt) | inr m ↦ h k (omega arith) ]
-    go Nothing h false out into = record { within = omega arith; fails = into; before = h }
+    go : (found : Option ℕ) → Lowest Good n found → (b : Bool) → (T b → Good n) → (Good n → T b)
+        → Lowest Good (suc n) (elim found [ Some k ↦ Some k | None ↦ elim b [ true ↦ None | false ↦ Some n ] ])
+    go (Some k) h b out into = record { within = omega (arith, h.within); fails = h.fails; before = h.before }
+    go None h true out into = λ k l. elim (eq-or-lt_of_le l) [ inl e ↦ rw (suc_inj e) (out tt) | inr m ↦ h k (omega arith) ]
+    go None h false out into = record { within = omega arith; fails = into; before = h }

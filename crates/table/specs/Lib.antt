@@ -10,6 +10,7 @@ pub mod Privilege
 pub mod Named
 pub mod Formats
 pub mod Check
+pub mod Refusals
 pub mod Plus
 pub mod Renumbered
 pub mod Steps

@@ -34,18 +34,13 @@ fn stamp_children(
     ensures { result ≡ true → Stamped e t kids.now counts.old stamps.new counts.new }
 {
     let stamp = t as u16;
-    let mut i = 0;
-    while i < kids.len() {
-        let child = word_at(kids, i);
-        if e <= child {
-            return false;
-        }
-        if stamps[child] == stamp {
+    for kid in kids {
+        let child = usize::from(*kid);
+        if e <= child || stamps[child] == stamp {
             return false;
         }
         stamps[child] = stamp;
         counts[child] += 1;
-        i += 1;
     }
     true
 }
@@ -74,8 +69,7 @@ fn types_pass(words: &[u16], stamps: &mut [u16; 256], counts: &mut [u16; 256]) -
     let list = 8 + 3 * e;
     let mut index = 0;
     let mut sum = 0;
-    let mut t = 0;
-    while t < e {
+    for t in 0..e {
         let kind = record_word(words, t, 0);
         let count = record_word(words, t, 1);
         if record_word(words, t, 2) != index {
@@ -86,7 +80,6 @@ fn types_pass(words: &[u16], stamps: &mut [u16; 256], counts: &mut [u16; 256]) -
                 return false;
             }
             sum += kind;
-            t += 1;
             continue;
         }
         if !is_right(kind, count) {
@@ -101,7 +94,6 @@ fn types_pass(words: &[u16], stamps: &mut [u16; 256], counts: &mut [u16; 256]) -
         }
         sum += privileges_of(rule_of(kind, index, count), gap);
         index = next;
-        t += 1;
     }
     totals_fit(words, index, sum)
 }

@@ -8,7 +8,6 @@ ghost use Rattle.table.specs.Below.{OnCycle};
 ghost use Rattle.table.specs.Steps.Flags.{Flags, Added, MarksBelow};
 
 use super::rule::children;
-use super::words::word_at;
 
 // Marks the kids, and lists those that were not marked before.
 pub fn add_kids(kids: &[u16], marks: &mut [u8; 256], order: &mut [u8; 256], listed: usize) -> usize
@@ -16,15 +15,13 @@ pub fn add_kids(kids: &[u16], marks: &mut [u8; 256], order: &mut [u8; 256], list
     ensures { Added kids.now marks.old order.old listed marks.new order.new result }
 {
     let mut n = listed;
-    let mut i = 0;
-    while i < kids.len() {
-        let child = word_at(kids, i);
+    for kid in kids {
+        let child = usize::from(*kid);
         if marks[child] != 1 {
             marks[child] = 1;
             order[n] = child as u8;
             n += 1;
         }
-        i += 1;
     }
     n
 }
@@ -37,8 +34,9 @@ pub fn mark_below(words: &[u16], from: &[u16], marks: &mut [u8; 256])
     let mut order = [0u8; 256];
     let mut n = add_kids(from, marks, &mut order, 0);
     let mut head = 0;
+    // A while: the list grows as it is passed.
     while head < n {
-        let kids = children(words, order[head] as usize);
+        let kids = children(words, usize::from(order[head]));
         n = add_kids(kids, marks, &mut order, n);
         head += 1;
     }

@@ -5,13 +5,12 @@ ghost use Rattle.table.specs.Words.{types, running};
 ghost use Rattle.table.specs.Check.{Headed, Laid, RightCount, Follows, Inside, Differ, Counted, Holds, places_in, places_of, number_of, rank_of, Earlier};
 ghost use Rattle.table.specs.Steps.Flags.{MarkedFor, Asked};
 
-use super::Found;
 use super::below::{is_on_cycle, mark_below};
 use super::privilege::privileges;
 use super::rule::children;
 use super::words::{entries, record_word, stretch, types, word_at};
 
-#[derive(Clone, Copy)]
+#[derive(Clone, Copy, Debug, PartialEq, Eq)]
 pub enum Check {
     Format,
     Layout,
@@ -25,40 +24,37 @@ pub enum Check {
     Total,
 }
 
-// The check of this rank.
-pub fn ranked(rank: u8) -> Check
-    requires { (1 ≤ rank) × (rank ≤ 10) }
-    ensures { rank_of result ≡ rank }
-{
-    match rank {
-        1 => Check::Format,
-        2 => Check::Layout,
-        3 => Check::Kind,
-        4 => Check::Count,
-        5 => Check::Stretch,
-        6 => Check::Bounds,
-        7 => Check::Twice,
-        8 => Check::Cycle,
-        9 => Check::Unreached,
-        _ => Check::Total,
-    }
-}
+// The checks in their order.
+pub const CHECKS: [Check; 10] = [
+    Check::Format,
+    Check::Layout,
+    Check::Kind,
+    Check::Count,
+    Check::Stretch,
+    Check::Bounds,
+    Check::Twice,
+    Check::Cycle,
+    Check::Unreached,
+    Check::Total,
+];
 
-// Its number.
-pub fn number_of(check: Check) -> u8
-    ensures { result ≡ number_of check }
-{
-    match check {
-        Check::Format => 1,
-        Check::Layout => 2,
-        Check::Kind => 3,
-        Check::Count => 4,
-        Check::Stretch => 5,
-        Check::Bounds => 6,
-        Check::Twice => 7,
-        Check::Cycle => 19,
-        Check::Unreached => 8,
-        Check::Total => 9,
+impl Check {
+    // Its number.
+    pub fn number(self) -> u8
+        ensures { result ≡ number_of self }
+    {
+        match self {
+            Check::Format => 1,
+            Check::Layout => 2,
+            Check::Kind => 3,
+            Check::Count => 4,
+            Check::Stretch => 5,
+            Check::Bounds => 6,
+            Check::Twice => 7,
+            Check::Cycle => 19,
+            Check::Unreached => 8,
+            Check::Total => 9,
+        }
     }
 }
 
@@ -68,16 +64,14 @@ fn places_in(check: Check, e: usize) -> usize
     ensures { result ≡ places_in e check }
 {
     match check {
-        Check::Format => 1,
-        Check::Layout => 1,
-        Check::Kind => e,
-        Check::Count => e,
+        Check::Format | Check::Layout | Check::Total => 1,
         Check::Stretch => e + 1,
-        Check::Bounds => e,
-        Check::Twice => e,
-        Check::Cycle => e,
-        Check::Unreached => e,
-        Check::Total => 1,
+        Check::Kind
+        | Check::Count
+        | Check::Bounds
+        | Check::Twice
+        | Check::Cycle
+        | Check::Unreached => e,
     }
 }
 
@@ -168,14 +162,7 @@ fn follows(words: &[u16], t: usize) -> bool
 fn inside(kids: &[u16], e: usize) -> bool
     ensures { Tells (Inside e kids.now) result }
 {
-    let mut i = 0;
-    while i < kids.len() {
-        if e <= word_at(kids, i) {
-            return false;
-        }
-        i += 1;
-    }
-    true
+    kids.iter().all(|kid| usize::from(*kid) < e)
 }
 
 // Does the child at j differ from those before it?
@@ -183,27 +170,13 @@ fn is_new(kids: &[u16], j: usize) -> bool
     ensures { Tells ((i : ℕ) → i < j → get_or kids.now i 0 ≢ get_or kids.now j 0) result }
 {
     let child = word_at(kids, j);
-    let mut i = 0;
-    while i < j {
-        if word_at(kids, i) == child {
-            return false;
-        }
-        i += 1;
-    }
-    true
+    (0..j).all(|i| word_at(kids, i) != child)
 }
 
 fn differ(kids: &[u16]) -> bool
     ensures { Tells (Differ kids.now) result }
 {
-    let mut j = 0;
-    while j < kids.len() {
-        if !is_new(kids, j) {
-            return false;
-        }
-        j += 1;
-    }
-    true
+    (0..kids.len()).all(|j| is_new(kids, j))
 }
 
 fn is_counted(words: &[u16]) -> bool
@@ -247,19 +220,16 @@ fn holds_at(words: &[u16], reached: &[u8; 256], check: Check, p: usize) -> bool
 }
 
 // The lowest place at which the check fails, where those before it pass.
-pub fn lowest_failing(words: &[u16], check: Check) -> Found
+pub fn lowest_failing(words: &[u16], check: Check) -> Option<usize>
     requires { Earlier words.now check }
     ensures { Lowest (Holds words.now check) (places_of words.now check) result }
 {
     let mut reached = [0u8; 256];
     mark_reached(words, check, &mut reached);
-    let n = places_in(check, types(words));
-    let mut p = 0;
-    while p < n {
+    for p in 0..places_in(check, types(words)) {
         if !holds_at(words, &reached, check, p) {
-            return Found::At(p);
+            return Some(p);
         }
-        p += 1;
     }
-    Found::Nothing
+    None
 }

@@ -4,6 +4,7 @@
 
 ghost use Rattle.std.specs.Prelude.{◌≡◌, length};
 ghost use Rattle.table.specs.Check.{TableAnswer};
+ghost use Rattle.table.specs.Refusals.{number_in, place_in};
 ghost use Rattle.table.specs.Steps.Accepting.{OrderedAnswer};
 
 mod accept;
@@ -11,58 +12,35 @@ pub mod below;
 mod check;
 mod order;
 pub mod privilege;
+mod refusal;
 pub mod rule;
 pub mod words;
 
+use check::CHECKS;
+pub use check::Check;
 use order::bottom_up;
-
-// What a search found: the lowest place, or none.
-#[derive(Clone, Copy)]
-pub enum Found {
-    At(usize),
-    Nothing,
-}
-
-// The number and the place of an answer.
-#[derive(Clone, Copy)]
-pub struct Checked {
-    pub number: u8,
-    pub place: usize,
-}
+pub use refusal::Refusal;
 
 // Checks a run of words as check_table does. Where it is a table, the order then holds its types, each after its children.
-pub fn check_ordered(words: &[u16], order: &mut [u8; 256]) -> Checked
+pub fn check_ordered(words: &[u16], order: &mut [u8; 256]) -> Result<usize, Refusal>
     requires { length order.old ≡ 256 }
-    ensures { OrderedAnswer words.now order.new result.number result.place }
+    ensures { OrderedAnswer words.now order.new (number_in result) (place_in result) }
 {
     if accept::is_accepted(words, order) {
-        return Checked {
-            number: 0,
-            place: words::word_at(words, 7),
-        };
+        return Ok(words::word_at(words, 7));
     }
-    let mut rank: u8 = 1;
-    while rank < 11 {
-        let check = check::ranked(rank);
-        let found = check::lowest_failing(words, check);
-        if let Found::At(place) = found {
-            return Checked {
-                number: check::number_of(check),
-                place: place,
-            };
+    for check in CHECKS {
+        if let Some(place) = check::lowest_failing(words, check) {
+            return Err(Refusal::Table(check, place));
         }
-        rank += 1;
     }
     bottom_up(words, order);
-    Checked {
-        number: 0,
-        place: words::word_at(words, 7),
-    }
+    Ok(words::word_at(words, 7))
 }
 
-// Checks a run of words, whatever it holds: 0 and V where it is a table, else the first check that fails and the lowest place at which it does.
-pub fn check_table(words: &[u16]) -> Checked
-    ensures { TableAnswer words.now result.number result.place }
+// Checks a run of words, whatever it holds: V where it is a table, else the first check that fails and the lowest place at which it does.
+pub fn check_table(words: &[u16]) -> Result<usize, Refusal>
+    ensures { TableAnswer words.now (number_in result) (place_in result) }
 {
     let mut order = [0u8; 256];
     check_ordered(words, &mut order)

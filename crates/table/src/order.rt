@@ -16,11 +16,8 @@ pub fn count_parents(words: &[u16], counts: &mut [u16; 256])
 {
     let a = 8 + 3 * types(words);
     let list = stretch(words, a, a + entries(words));
-    let mut i = 0;
-    while i < list.len() {
-        let child = word_at(list, i);
-        counts[child] += 1;
-        i += 1;
+    for child in list {
+        counts[usize::from(*child)] += 1;
     }
 }
 
@@ -36,18 +33,16 @@ fn pass(
     requires { Childed words.now × Filling words.now (place + 1) start counts.old order.old × (start ≤ place) }
     ensures { Filling words.now place result counts.new order.new }
 {
-    let kids = children(words, order[place] as usize);
+    let kids = children(words, usize::from(order[place]));
     let mut free = start;
-    let mut i = 0;
-    while i < kids.len() {
-        let child = word_at(kids, i);
+    for kid in kids {
+        let child = usize::from(*kid);
         let left = counts[child] - 1;
         counts[child] = left;
         if left == 0 {
             free -= 1;
             order[free] = child as u8;
         }
-        i += 1;
     }
     free
 }
@@ -65,6 +60,7 @@ pub fn is_ordered(words: &[u16], counts: &mut [u16; 256], order: &mut [u8; 256])
     let mut place = types(words);
     let mut free = place - 1;
     order[free] = root as u8;
+    // A while: the types taken grow in number as they are passed.
     while free < place {
         place -= 1;
         free = pass(words, place, counts, order, free);

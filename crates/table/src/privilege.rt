@@ -12,6 +12,7 @@ use super::rule::{Rule, rule_at};
 use super::words::{record_word, types};
 
 // How many kinds there are by which a child cannot be replaced: in format 2 none, else one, its own.
+#[tactic(auto, unfolding(crate::specs::Privilege::gap_of))]
 pub fn gap_of(words: &[u16]) -> usize
     requires { 0 < length words.now }
     ensures { Within 2 (gap_of words.now) result }
@@ -24,11 +25,9 @@ fn others_of(rule: Rule, star: usize) -> usize
     ensures { result ≡ others_of star rule }
 {
     match rule {
-        Rule::Empty => 0,
+        Rule::Empty | Rule::Sequence { .. } | Rule::Choice { .. } => 0,
         Rule::Text => 1,
-        Rule::Sequence { first: _, count: _ } => 0,
-        Rule::Choice { first: _, count: _ } => 0,
-        Rule::Star { first: _, count: _ } => star,
+        Rule::Star { .. } => star,
     }
 }
 
@@ -37,11 +36,8 @@ fn choices_of(rule: Rule) -> usize
     ensures { result ≡ choices_of rule }
 {
     match rule {
-        Rule::Empty => 0,
-        Rule::Text => 0,
-        Rule::Sequence { first: _, count: _ } => 0,
-        Rule::Choice { first: _, count } => count,
-        Rule::Star { first: _, count: _ } => 0,
+        Rule::Choice { count, .. } => count,
+        Rule::Empty | Rule::Text | Rule::Sequence { .. } | Rule::Star { .. } => 0,
     }
 }
 
@@ -58,6 +54,7 @@ pub(crate) fn privileges_of(rule: Rule, gap: usize) -> usize
 }
 
 // How many privileges type x has, by the gap, for who asks it of many types.
+#[tactic(auto, using(crate::proofs::Privileges::gap_few), unfolding(crate::specs::Privilege::privileges_at))]
 pub fn privileges_in(words: &[u16], x: usize, gap: usize) -> usize
     requires { HasRecord words.now x × (gap ≡ gap_of words.now) }
     ensures { Within 4294967296 (privileges_at words.now x) result }
@@ -74,20 +71,20 @@ pub fn privileges_at(words: &[u16], x: usize) -> usize
 }
 
 // The first privilege of type x: how many the types before it have.
+#[tactic(auto, using(crate::proofs::Sum::sum_more), unfolding(crate::specs::Privilege::first_privilege, crate::specs::Sum::sum_below))]
 pub fn first_privilege(words: &[u16], x: usize) -> usize
     requires { Laid words.now × (x ≤ types words.now) }
     ensures { Within 281474976710656 (first_privilege words.now x) result }
 {
     let mut sum = 0;
-    let mut y = 0;
-    while y < x {
+    for y in 0..x {
         sum += privileges_at(words, y);
-        y += 1;
     }
     sum
 }
 
 // V, the number of privileges.
+#[tactic(auto, unfolding(crate::specs::Privilege::privileges))]
 pub(crate) fn privileges(words: &[u16]) -> usize
     requires { Laid words.now }
     ensures { Within 281474976710656 (privileges words.now) result }
@@ -102,11 +99,9 @@ pub fn first_privileges(words: &[u16], firsts: &mut [u16; 256])
 {
     let e = types(words);
     let mut first = 0;
-    let mut x = 0;
-    while x < e {
+    for x in 0..e {
         firsts[x] = first as u16;
         first += privileges_at(words, x);
-        x += 1;
     }
 }
 
@@ -124,7 +119,7 @@ pub fn numbers_at(words: &[u16], x: usize, first: usize) -> Numbering
     ensures { NumberedAs words.now x result }
 {
     Numbering {
-        first: first,
+        first,
         count: record_word(words, x, 1),
         gap: gap_of(words),
     }

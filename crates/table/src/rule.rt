@@ -15,6 +15,7 @@ pub enum Rule {
     Star { first: usize, count: usize },
 }
 
+#[tactic(auto, using(crate::proofs::Rules::rule_else), unfolding(crate::specs::Rule::rule_of))]
 pub(crate) fn rule_of(kind: usize, first: usize, count: usize) -> Rule
     ensures { result ≡ rule_of kind first count }
 {

@@ -7,7 +7,7 @@ ghost use Rattle.table.specs.Steps.Reading.{Widened, HasRecord};
 fn wide(x: u16) -> usize
     ensures { Widened x result }
 {
-    x as usize
+    usize::from(x)
 }
 
 // The word at i, widened.
@@ -43,7 +43,7 @@ pub fn record_word(words: &[u16], t: usize, k: usize) -> usize
 pub fn lesser(a: usize, b: usize) -> usize
     ensures { result ≡ min a b }
 {
-    if a < b { a } else { b }
+    a.min(b)
 }
 
 // The words from a up to b, as a part of the run.

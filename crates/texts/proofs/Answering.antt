@@ -1,17 +1,10 @@
 -- The answer for a text, computed: what reading it answers. Assumes nothing.
-use Prim.Native.Nat.{ℕ, ◌≤◌, ◌<◌}
-use mathlib.Core.Path.{◌≡◌, refl, subst}
-use mathlib.Core.Logic.{inl, inr}
-use mathlib.Core.List.{List, ◌∷◌, ◌++◌}
-use mathlib.Core.Option.{Option, none, some}
-use lib.ListN.{length, drop}
+use Rattle.std.proofs.Common.{ℕ, ◌≤◌, ◌<◌, ◌≡◌, refl, subst, inl, inr, List, ◌∷◌, ◌++◌, Option, Some, None, length, drop, Result, Ok, Err}
 use Rattle.table.proofs.Test.{is_less, is_equal}
 use Rattle.table.proofs.TableTests.{answer_of, answer_of_lem}
 use Rattle.table.specs.Check as table
 use Rattle.table.specs.Check.{Accepted, TableAnswer}
 use Rattle.table.specs.Privilege.{privileges}
-use Rattle.table.specs.declared.Found.{Found}
-use Rattle.table.specs.declared.Found.TheVariants.{At as Wrong, Nothing}
 use Rattle.grammar.specs.Tree.{Declaration}
 use Rattle.grammar.specs.Grammar.{Text}
 use Rattle.grammar.proofs.OneTree.{one_tree}
@@ -19,8 +12,8 @@ use Rattle.model.specs.Tables.{rules_of, kids_of_all, table_of}
 use Rattle.table.proofs.Answers.{answer_accepted}
 use Rattle.grammar.proofs.Stopping.{le_or_lt}
 use Rattle.scan.specs.Steps.Scanned as scan
-use Rattle.scan.specs.declared.Step.{Step}
-use Rattle.scan.specs.declared.Step.TheVariants.{At, Bad, Over}
+use Rattle.scan.specs.declared.Stop.{Stop}
+use Rattle.scan.specs.declared.Stop.TheVariants.{Bad, Over}
 use Rattle.names.specs.Steps.Names.{FirstMisnamed}
 use Rattle.dtd.specs.Answer.{Large, many_types, many_children, Read, Named, misnamed, no_table, DtdAnswer, refused, too_short, done}
 use Rattle.dtd.proofs.Passing.{stopped_answer, passed_answer, large_answer}
@@ -74,9 +67,9 @@ module _ (t out : List ℕ) (r : scan.Read t) (d : Declaration) (ds : List Decla
         (λ f. record { number = n; place = p; after = out; right = table_refused y f })
 
   -- its names
-  abbrev named_by : Read t d ds → (f : Found) → FirstMisnamed (d ∷ ds) f → Right t out
-  named_by y (Wrong k) h = record { number = 22; place = k; after = out; right = refused (misnamed refl y h.0 h.1) refl }
-  named_by y Nothing h = let c = answer_of (table_of 1 (d ∷ ds)) in tabled (record { read = y; right = h }) c.number c.place (answer_of_lem (table_of 1 (d ∷ ds)))
+  abbrev named_by : Read t d ds → (f : Option ℕ) → FirstMisnamed (d ∷ ds) f → Right t out
+  named_by y (Some k) h = record { number = 22; place = k; after = out; right = refused (misnamed refl y h.0 h.1) refl }
+  named_by y None h = let c = answer_of (table_of 1 (d ∷ ds)) in tabled (record { read = y; right = h }) c.number c.place (answer_of_lem (table_of 1 (d ∷ ds)))
 
   abbrev tree_by : Right t out
   tree_by = when (is_less 256 (length (rules_of (d ∷ ds)))) (λ l. record { number = 21; place = length t; after = out; right = refused (large_answer tree (many_types refl x l)) refl })
@@ -85,17 +78,17 @@ module _ (t out : List ℕ) (r : scan.Read t) (d : Declaration) (ds : List Decla
 
 module _ (t out : List ℕ) where
   abbrev parsed_by : scan.Read t → Option ((d : Declaration) × ((ds : List Declaration) × Text t d ds)) → Option (Right t out)
-  parsed_by r none = none
-  parsed_by r (some x) = some (tree_by t out r x.0 x.1.0 x.1.1)
+  parsed_by r None = None
+  parsed_by r (Some x) = Some (tree_by t out r x.0 x.1.0 x.1.1)
 
-  abbrev scanned_by : (n : ℕ) (r : Step) → scan.Scanned t r → Option (Right t out)
-  scanned_by n (At e) x = parsed_by x.1 (parse n t)
-  scanned_by n (Bad k) x = some (record { number = 20; place = k; after = out; right = refused (stopped_answer x) refl })
-  scanned_by n (Over k) x = some (record { number = 21; place = k; after = out; right = refused (passed_answer x) refl })
+  abbrev scanned_by : (n : ℕ) (r : Result ℕ Stop) → scan.Scanned t r → Option (Right t out)
+  scanned_by n (Ok e) x = parsed_by x.1 (parse n t)
+  scanned_by n (Err (Bad k)) x = Some (record { number = 20; place = k; after = out; right = refused (stopped_answer x) refl })
+  scanned_by n (Err (Over k)) x = Some (record { number = 21; place = k; after = out; right = refused (passed_answer x) refl })
 
-  abbrev answer_by : (n : ℕ) → Option ((r : Step) × scan.Scanned t r) → Option (Right t out)
-  answer_by n none = none
-  answer_by n (some x) = scanned_by n x.0 x.1
+  abbrev answer_by : (n : ℕ) → Option ((r : Result ℕ Stop) × scan.Scanned t r) → Option (Right t out)
+  answer_by n None = None
+  answer_by n (Some x) = scanned_by n x.0 x.1
 
   abbrev pub answer : ℕ → Option (Right t out)
   answer n = answer_by n (scan_at n t)

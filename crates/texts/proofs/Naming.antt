@@ -1,13 +1,6 @@
 -- The places of the wrong names, computed; the lowest is number 22's. Assumes nothing.
-use Prim.Native.Nat.{ℕ, suc, ◌+◌, ◌≤◌, ◌<◌}
-use mathlib.Core.Path.{◌≡◌, refl}
-use mathlib.Core.Logic.{◌⊎◌, inl, inr}
-use mathlib.Core.List.{List, [], ◌∷◌, ◌++◌}
-use native.Mathlib.Omega.{arith}
-use lib.ListN.{length}
+use Rattle.std.proofs.Common.{ℕ, suc, ◌+◌, ◌≤◌, ◌<◌, ◌≡◌, refl, ◌⊎◌, inl, inr, List, [], ◌∷◌, ◌++◌, arith, length, Option, Some, None}
 use Rattle.table.proofs.Test.{is_less, is_at_most}
-use Rattle.table.specs.declared.Found.{Found}
-use Rattle.table.specs.declared.Found.TheVariants.{At, Nothing}
 use Rattle.grammar.specs.Tree.{Use, Declaration, Nth, first, later, uses_of}
 use Rattle.model.specs.Names.{Misnamed}
 use Rattle.model.specs.Tables.{number_of}
@@ -40,17 +33,17 @@ in_part (x ∷ l) (here e) = inl (here e)
 in_part (x ∷ l) (there h) = elim (in_part l h) [ inl y ↦ inl (there y) | inr y ↦ inr y ]
 
 -- the lowest of a list
-abbrev less : ℕ → Found → Found
-less x Nothing = At x
-less x (At k) = when (is_at_most x k) (λ h. At x) (λ h. At k)
+abbrev less : ℕ → Option ℕ → Option ℕ
+less x None = Some x
+less x (Some k) = when (is_at_most x k) (λ h. Some x) (λ h. Some k)
 
-abbrev lowest : List ℕ → Found
-lowest [] = Nothing
+abbrev lowest : List ℕ → Option ℕ
+lowest [] = None
 lowest (x ∷ l) = less x (lowest l)
 
-abbrev Least : List ℕ → Found → Type 0
-Least l (At k) = In k l × ((j : ℕ) → In j l → k ≤ j)
-Least l Nothing = (j : ℕ) → ¬ In j l
+abbrev Least : List ℕ → Option ℕ → Type 0
+Least l (Some k) = In k l × ((j : ℕ) → In j l → k ≤ j)
+Least l None = (j : ℕ) → ¬ In j l
 
 lowest_least : (l : List ℕ) → Least l (lowest l)
 lowest_least [] = λ j h. nowhere h refl
@@ -67,9 +60,9 @@ lowest_least (x ∷ l) = go (lowest l) (lowest_least l)
     above : {k : ℕ} → ¬ (x ≤ k) → k ≤ x
     above {k} f = elim (le_or_lt x k) [ inl y ↦ absurd (f y) | inr y ↦ omega arith ]
 
-    go : (f : Found) → Least l f → Least (x ∷ l) (less x f)
-    go Nothing h = (here refl, only h)
-    go (At k) h = by_when (Least (x ∷ l)) (is_at_most x k) (λ y. (here refl, all (omega arith) y h.1)) (λ f. (there h.0, all (above f) (omega arith) h.1))
+    go : (f : Option ℕ) → Least l f → Least (x ∷ l) (less x f)
+    go None h = (here refl, only h)
+    go (Some k) h = by_when (Least (x ∷ l)) (is_at_most x k) (λ y. (here refl, all (omega arith) y h.1)) (λ f. (there h.0, all (above f) (omega arith) h.1))
 
 module _ (number : List ℕ → ℕ) (declared : ℕ) where
   -- the places of names that are never declared
@@ -131,7 +124,7 @@ module _ (number : List ℕ → ℕ) (declared : ℕ) where
   ]
 
 -- the first misnamed name
-abbrev pub misnamed_of : List Declaration → Found
+abbrev pub misnamed_of : List Declaration → Option ℕ
 misnamed_of ds = lowest (wrongs_from (number_of ds) (length ds) 0 ds)
 
 pub misnamed_of_lem : (ds : List Declaration) → FirstMisnamed ds (misnamed_of ds)
@@ -146,6 +139,6 @@ misnamed_of_lem ds = go (misnamed_of ds) (lowest_least (wrongs_from (number_of d
     from_places : {k : ℕ} → In k places → Misnamed ds k
     from_places {k} h = let r = from_wrong (number_of ds) (length ds) 0 k ds h in wrong_misnamed r.1.1 (at (number_of ds) (length ds) (omega arith) r.1.2)
 
-    go : (f : Found) → Least places f → FirstMisnamed ds f
-    go (At k) h = (from_places h.0, λ j l m. omega (arith, h.1 j (in_places m)))
-    go Nothing h = λ j m. h j (in_places m)
+    go : (f : Option ℕ) → Least places f → FirstMisnamed ds f
+    go (Some k) h = (from_places h.0, λ j l m. omega (arith, h.1 j (in_places m)))
+    go None h = λ j m. h j (in_places m)

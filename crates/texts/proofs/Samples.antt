@@ -1,12 +1,6 @@
 -- Texts with their tables, and texts with the number and place of their refusal: one list of rows, and one statement, proved by one computation. The
 -- answers are the second program's, held against document 02. Assumes nothing.
-use Prim.Native.Nat.{ℕ, zero, suc}
-use mathlib.Core.Path.{◌≡◌, refl}
-use mathlib.Core.Bool.{Bool, true, false, ◌&&◌}
-use mathlib.Core.List.{List, [], ◌∷◌, ◌++◌}
-use mathlib.Core.Option.{Option, none, some}
-use lib.Dec.{T, eqb, eqb→eq}
-use lib.ListN.{length}
+use Rattle.std.proofs.Common.{ℕ, zero, suc, ◌≡◌, refl, Bool, true, false, ◌&&◌, List, [], ◌∷◌, ◌++◌, Option, Some, None, T, eqb, eqb→eq, length}
 use Rattle.table.specs.Sum.{sum_below}
 use Rattle.table.specs.Rule.{rule_of, rule_at, children_at}
 use Rattle.table.specs.Privilege.{gap_of, privileges_at, first_privilege, privileges}
@@ -155,16 +149,16 @@ Answers r = DtdAnswer r.text r.out 1 r.number r.place r.after
 
 -- the computed answer is the row's
 abbrev same : (r : Row) → Option (Right r.text r.out) → Bool
-same r none = false
-same r (some x) = eqb x.number r.number && (eqb x.place r.place && same_name x.after r.after)
+same r None = false
+same r (Some x) = eqb x.number r.number && (eqb x.place r.place && same_name x.after r.after)
 
 abbrev all : List Row → Bool
 all [] = true
 all (r ∷ rs) = same r (answer r.text r.out 1000) && all rs
 
 same_answers : (r : Row) (x : Option (Right r.text r.out)) → T (same r x) → Answers r
-same_answers r none h = absurd h
-same_answers r (some x) h =
+same_answers r None h = absurd h
+same_answers r (Some x) h =
     let y = and_out (eqb x.number r.number) (eqb x.place r.place && same_name x.after r.after) h in
     let z = and_out (eqb x.place r.place) (same_name x.after r.after) y.1 in
     rw (← (eqb→eq x.number r.number y.0), ← (eqb→eq x.place r.place z.0), ← (same_is x.after r.after (told (same_name x.after r.after) z.1))) x.right

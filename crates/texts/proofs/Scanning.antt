@@ -1,15 +1,6 @@
 -- A reader that computes, by the moves of the scan: what it answers is what scanning a text answers. Assumes nothing.
-use Prim.Native.Nat.{ℕ, zero, suc, ◌≤◌, ◌<◌}
+use Rattle.std.proofs.Common.{ℕ, zero, suc, ◌≤◌, ◌<◌, ◌≡◌, refl, sym, inl, inr, Bool, true, false, List, [], ◌∷◌, Option, Some, None, arith, eq-or-lt_of_le, length, take_all, Result, Ok, Err}
 use Prim.Native.Char.{code}
-use mathlib.Core.Path.{◌≡◌, refl, sym}
-use mathlib.Core.Logic.{inl, inr}
-use mathlib.Core.Bool.{Bool, true, false}
-use mathlib.Core.List.{List, [], ◌∷◌}
-use mathlib.Core.Option.{Option, none, some}
-use native.Mathlib.Omega.{arith}
-use native.Mathlib.Nat.{eq-or-lt_of_le}
-use lib.ListN.{length}
-use lib.Seq.{take_all}
 use Rattle.table.proofs.Test.{is_equal, is_at_most}
 use Rattle.grammar.specs.Bytes.{ascii, is_space, is_mark, is_no_dash, Byte, stop, go_on}
 use Rattle.grammar.proofs.Unique.{Separator, bar, comma}
@@ -19,56 +10,52 @@ use Rattle.scan.specs.Steps.Claims.{Frame, first, behind, Rest, RestMarked, From
 use Rattle.scan.specs.Steps.Moves.{Moves, Reads, got, bad, over}
 use Rattle.scan.specs.Steps.Readers.{BlanksRead, SpaceRead, WordRead, place_of}
 use Rattle.scan.specs.Steps.Items.{finish_of, Nothing, EndsAt, ItemsRead}
-use Rattle.scan.specs.declared.Step.{Step}
-use Rattle.scan.specs.declared.Step.TheVariants.{At, Bad, Over}
+use Rattle.scan.specs.declared.Stop.{Stop}
+use Rattle.scan.specs.declared.Stop.TheVariants.{Bad, Over}
 use Rattle.scan.proofs.Moving.{moves_on, reads_on, Good, Avoids}
 use Rattle.scan.proofs.Pieces.{good_literal, avoids_literal, good_blanks, blanks_moves, word_reads}
 use Rattle.scan.proofs.Groups.{good_row, good_inside, good_closing, good_opening, row_tight, inside_tight, avoids_closing, avoids_opening, into_group, too_deep, row_begins, inside_begins, opens_choice, opens_sequence, closes, separates}
 use Rattle.scan.proofs.Contents.{content_stuck, good_text, text_tight, text_mixed, text_stuck, good_group, group_tight, group_text, group_children, content_opens}
 use Rattle.scan.proofs.Items.{good_end, good_rest, good_marked, good_items, good_open, item_begins, open_comment, open_element, items_blanks}
 use Rattle.scan.proofs.Remarks.{remark_stuck}
-use Rattle.scan.proofs.Readings.{reads_other, named_reads, marked}
-use Rattle.scan.proofs.Declared.{bad_at, over_at, text_starred, text_plain, any_passes, any_stops, empty_reads, named_space, declared_name, element_space, keyword_reads, dashes_read, remark_one, remark_two, remark_ends, finish_told, start}
+use Rattle.scan.proofs.Readings.{reads_moves, reads_other, named_reads, marked}
+use Rattle.scan.proofs.Declared.{text_starred, text_plain, any_passes, any_stops, empty_reads, named_space, declared_name, element_space, keyword_reads, dashes_read, remark_one, remark_two, remark_ends, finish_told, start}
 use Rattle.scan.proofs.Whole.{scanned}
 use Rattle.texts.proofs.Tests.{when, of, byte_is, blanks_at, space_at, maybe_at, word_at, name_at}
 
 -- an answer that is right, unless the reader ran out of steps
 abbrev pub Try : Claim → Claim → List ℕ → ℕ → Type 0
-Try P Q t a = Option ((r : Step) × Reads P Q t a r)
+Try P Q t a = Option ((r : Result ℕ Stop) × Reads P Q t a r)
 
 -- behind a move
 abbrev pub on : {P Q R : Claim} {t : List ℕ} {a b : ℕ} → Moves P Q t a b → Try Q R t b → Try P R t a
-on m none = none
-on m (some x) = some (x.0, reads_on m x.1)
-
-pub reads_moves : {P Q : Claim} {t : List ℕ} {a e : ℕ} → Reads P Q t a (At e) → Moves P Q t a e
-reads_moves (got m) = m
+on m None = None
+on m (Some x) = Some (x.0, reads_on m x.1)
 
 -- one reader after another
-abbrev go_on_to : {P Q R : Claim} {t : List ℕ} {a : ℕ} (r : Step) → Reads P Q t a r → ((e : ℕ) → e ≤ length t → Try Q R t e) → Try P R t a
-go_on_to (At e) x k = on (reads_moves x) (k e (reads_moves x).inside)
-go_on_to (Bad j) x k = some (Bad j, reads_other (λ e p. bad_at p) x)
-go_on_to (Over j) x k = some (Over j, reads_other (λ e p. over_at p) x)
+abbrev go_on_to : {P Q R : Claim} {t : List ℕ} {a : ℕ} (r : Result ℕ Stop) → Reads P Q t a r → ((e : ℕ) → e ≤ length t → Try Q R t e) → Try P R t a
+go_on_to (Ok e) x k = on (reads_moves x) (k e (reads_moves x).inside)
+go_on_to (Err s) x k = Some (Err s, reads_other x)
 
 abbrev pub and_then : {P Q R : Claim} {t : List ℕ} {a : ℕ} → Try P Q t a → ((e : ℕ) → e ≤ length t → Try Q R t e) → Try P R t a
-and_then none k = none
-and_then (some x) k = go_on_to x.0 x.1 k
+and_then None k = None
+and_then (Some x) k = go_on_to x.0 x.1 k
 
 -- the smallest pieces
 abbrev blanks_of : {K R : Claim} {t : List ℕ} {a : ℕ} → Good K → Avoids is_space K → Option ((b : ℕ) × BlanksRead t a b) → ((b : ℕ) → b ≤ length t → Try K R t b)
     → Try (BlanksThen K) R t a
-blanks_of g f none k = none
-blanks_of g f (some x) k = on (blanks_moves g f x.1) (k x.0 x.1.inside)
+blanks_of g f None k = None
+blanks_of g f (Some x) k = on (blanks_moves g f x.1) (k x.0 x.1.inside)
 
-abbrev read_of : {P Q : Claim} {t : List ℕ} {a : ℕ} {F : Step → Type 0} → Option ((r : Step) × F r) → ((r : Step) → F r → Reads P Q t a r) → Try P Q t a
-read_of none f = none
-read_of (some x) f = some (x.0, f x.0 x.1)
+abbrev read_of : {P Q : Claim} {t : List ℕ} {a : ℕ} {F : Result ℕ Stop → Type 0} → Option ((r : Result ℕ Stop) × F r) → ((r : Result ℕ Stop) → F r → Reads P Q t a r) → Try P Q t a
+read_of None f = None
+read_of (Some x) f = Some (x.0, f x.0 x.1)
 
 abbrev word : {K : Claim} (cs t : List ℕ) (a : ℕ) → a ≤ length t → Good K → Try (LiteralThen cs K) K t a
-word cs t a l g = let x = word_at cs t a l in some (x.0, word_reads g x.0 x.1)
+word cs t a l g = let x = word_at cs t a l in Some (x.0, word_reads g x.0 x.1)
 
 abbrev mark_at : (fs : List Frame) (t : List ℕ) (a : ℕ) → a ≤ length t → Try (RestMarked fs) (Rest fs) t a
-mark_at fs t a l = let x = maybe_at is_mark t a in some (At x.0, got (marked fs l x.1))
+mark_at fs t a l = let x = maybe_at is_mark t a in Some (Ok x.0, got (marked fs l x.1))
 
 -- particles, choices and sequences: the readers that read n steps deep, and of them those of one step more
 record Readers (t : List ℕ) : Type 0 where
@@ -85,7 +72,7 @@ module _ (n : ℕ) (t : List ℕ) (rs : Readers t) where
       (λ e i. blanks_of (good_opening depth (good_marked fs)) (avoids_opening depth refl refl refl) (blanks_at n t e i) (λ b j. opening_at depth fs b j)))
 
   abbrev group_at : (depth : ℕ) (fs : List Frame) (a : ℕ) → Byte t a (code "(") → Try (ParticleThen depth (Rest fs)) (Rest fs) t a
-  group_at zero fs a g = some (Over a, too_deep (good_rest fs) g)
+  group_at zero fs a g = Some (Err (Over a), too_deep (good_rest fs) g)
   group_at (suc below) fs a g = on (into_group below (good_rest fs) g)
       (blanks_of (good_inside below (good_marked fs)) (inside_tight below) (blanks_at n t (suc a) g.within) (λ b i. inside_at below fs b i))
 
@@ -104,14 +91,14 @@ module _ (n : ℕ) (t : List ℕ) (rs : Readers t) where
       (λ f. on (closes depth (good_marked fs) l s f) (and_then (word (ascii ")") t a l (good_marked fs)) (λ e i. mark_at fs t e i)))
 
 abbrev readers : ℕ → (t : List ℕ) → Readers t
-readers zero t = record { particle = λ depth fs a l. none; row = λ s x depth fs a l. none }
+readers zero t = record { particle = λ depth fs a l. None; row = λ s x depth fs a l. None }
 readers (suc n) t = record { particle = particle_at n t (readers n t); row = row_at n t (readers n t) }
 
 -- text
 abbrev text_at : (t : List ℕ) (a : ℕ) → a ≤ length t → Try (TextThen FromEnd) FromEnd t a
 text_at t a l = when (byte_is t a (code ")"))
-    (λ g. when (byte_is t (suc a) (code "*")) (λ h. some (At (suc (suc a)), text_starred g h refl)) (λ f. some (At (suc a), text_plain g f refl)))
-    (λ f. when (byte_is t a (code "|")) (λ h. some (Over a, text_mixed good_end h)) (λ h. some (Bad a, text_stuck good_end l f h)))
+    (λ g. when (byte_is t (suc a) (code "*")) (λ h. Some (Ok (suc (suc a)), text_starred g h refl)) (λ f. Some (Ok (suc a), text_plain g f refl)))
+    (λ f. when (byte_is t a (code "|")) (λ h. Some (Err (Over a), text_mixed good_end h)) (λ h. Some (Err (Bad a), text_stuck good_end l f h)))
 
 abbrev pcdata_at : (n : ℕ) (t : List ℕ) (a : ℕ) → a ≤ length t → Try (LiteralThen (ascii "#PCDATA") (BlanksThen (TextThen FromEnd))) FromEnd t a
 pcdata_at n t a l = and_then (word (ascii "#PCDATA") t a l (good_blanks (good_text good_end))) (λ e i. blanks_of (good_text good_end) text_tight (blanks_at n t e i) (λ b j. text_at t b j))
@@ -120,16 +107,15 @@ pcdata_at n t a l = and_then (word (ascii "#PCDATA") t a l (good_blanks (good_te
 abbrev bracket_at : (n : ℕ) (t : List ℕ) (a : ℕ) → a ≤ length t → Try (GroupThen FromEnd) FromEnd t a
 bracket_at n t a l = when (byte_is t a (code "#")) (λ h. on (group_text good_end h) (pcdata_at n t a l)) (λ f. on (group_children good_end l f) (inside_at n t (readers n t) 15 [] a l))
 
-abbrev any_of : (t : List ℕ) (a : ℕ) → Byte t a (code "A") → (r : Step) → WordRead t (ascii "ANY") a r → Try (SpecThen FromEnd) FromEnd t a
-any_of t a g (At e) x = some (Over a, any_passes {e = e} (At e) refl x)
-any_of t a g (Bad k) x = some (Bad k, any_stops g (Bad k) (λ e p. bad_at p) x)
-any_of t a g (Over k) x = some (Over k, any_stops g (Over k) (λ e p. over_at p) x)
+abbrev any_of : (t : List ℕ) (a : ℕ) → Byte t a (code "A") → (r : Result ℕ Stop) → WordRead t (ascii "ANY") a r → Try (SpecThen FromEnd) FromEnd t a
+any_of t a g (Ok e) x = Some (Err (Over a), any_passes x)
+any_of t a g (Err s) x = Some (Err s, any_stops g s x)
 
 abbrev pub content_at : (n : ℕ) (t : List ℕ) (a : ℕ) → a ≤ length t → Try (SpecThen FromEnd) FromEnd t a
 content_at n t a l = when (byte_is t a (code "("))
     (λ g. on (content_opens good_end g) (blanks_of (good_group good_end) group_tight (blanks_at n t (suc a) g.within) (λ b i. bracket_at n t b i)))
-    (λ o. when (byte_is t a (code "E")) (λ g. (let x = word_at (ascii "EMPTY") t a l in some (x.0, empty_reads g x.0 x.1)))
-    (λ e. when (byte_is t a (code "A")) (λ g. (let x = word_at (ascii "ANY") t a l in any_of t a g x.0 x.1)) (λ f. some (Bad a, content_stuck good_end l e f o))))
+    (λ o. when (byte_is t a (code "E")) (λ g. (let x = word_at (ascii "EMPTY") t a l in Some (x.0, empty_reads g x.0 x.1)))
+    (λ e. when (byte_is t a (code "A")) (λ g. (let x = word_at (ascii "ANY") t a l in any_of t a g x.0 x.1)) (λ f. Some (Err (Bad a), content_stuck good_end l e f o))))
 
 -- declarations, from behind '<!' on
 abbrev end_at : (n : ℕ) (t : List ℕ) (a : ℕ) → a ≤ length t → Try FromEnd (FromItems true) t a
@@ -146,30 +132,29 @@ element_at n t a l = let x = word_at (ascii "ELEMENT") t a l in
 
 -- comments, from behind '<!--' on
 abbrev remark_at : (n : ℕ) (seen : Bool) (t : List ℕ) (a : ℕ) → a ≤ length t → Try (FromRemark seen) (FromItems seen) t a
-remark_at zero seen t a l = none
+remark_at zero seen t a l = None
 remark_at (suc n) seen t a l = when (of is_no_dash t a) (λ o. on (remark_one seen o refl) (remark_at n seen t (suc a) o.within))
     (λ f. when (byte_is t a (code "-"))
     (λ g. when (of is_no_dash t (suc a)) (λ o. on (remark_two seen g o refl) (remark_at n seen t (suc (suc a)) o.within))
-    (λ h. (let x = word_at (ascii "->") t (suc a) g.within in some (x.0, remark_ends seen g h x.0 x.1))))
-    (λ g. some (Bad a, remark_stuck seen l f g)))
+    (λ h. (let x = word_at (ascii "->") t (suc a) g.within in Some (x.0, remark_ends seen g h x.0 x.1))))
+    (λ g. Some (Err (Bad a), remark_stuck seen l f g)))
 
 abbrev dashes_at : (n : ℕ) (seen : Bool) (t : List ℕ) (a : ℕ) → a ≤ length t → Try (LiteralThen (ascii "--") (FromRemark seen)) (FromItems seen) t a
 dashes_at n seen t a l = let x = word_at (ascii "--") t a l in go_on_to x.0 (dashes_read seen x.0 x.1) (λ e i. remark_at n seen t e i)
 
 -- what stands behind the bytes that were read
 abbrev Whole : List ℕ → Type 0
-Whole t = Option ((r : Step) × ItemsRead t r)
+Whole t = Option ((r : Result ℕ Stop) × ItemsRead t r)
 
-abbrev item_read : {P Q : Claim} {t : List ℕ} {a : ℕ} → Moves (FromItems false) P t 0 a → (r : Step) → Reads P Q t a r
+abbrev item_read : {P Q : Claim} {t : List ℕ} {a : ℕ} → Moves (FromItems false) P t 0 a → (r : Result ℕ Stop) → Reads P Q t a r
     → ((e : ℕ) → e ≤ length t → Moves (FromItems false) Q t 0 e → Whole t) → Whole t
-item_read m (At e) x k = k e (reads_moves x).inside (moves_on m (reads_moves x))
-item_read m (Bad j) x k = some (Bad j, record { read = reads_on m (reads_other (λ e p. bad_at p) x); ends = tt })
-item_read m (Over j) x k = some (Over j, record { read = reads_on m (reads_other (λ e p. over_at p) x); ends = tt })
+item_read m (Ok e) x k = k e (reads_moves x).inside (moves_on m (reads_moves x))
+item_read m (Err s) x k = Some (Err s, record { read = reads_on m (reads_other x); ends = tt })
 
 abbrev item_of : {P Q : Claim} {t : List ℕ} {a : ℕ} → Moves (FromItems false) P t 0 a → Try P Q t a
     → ((e : ℕ) → e ≤ length t → Moves (FromItems false) Q t 0 e → Whole t) → Whole t
-item_of m none k = none
-item_of m (some x) k = item_read m x.0 x.1 k
+item_of m None k = None
+item_of m (Some x) k = item_read m x.0 x.1 k
 
 pub strictly : {a b : ℕ} → a ≤ b → ¬ (a ≡ b) → a < b
 strictly l f = elim (eq-or-lt_of_le l) [ inl e ↦ absurd (f e) | inr h ↦ h ]
@@ -184,29 +169,29 @@ module _ (n : ℕ) (t : List ℕ) (again : (seen : Bool) (a : ℕ) → a ≤ len
   open_at a l m = let x = word_at (ascii "<!") t a l in item_read m x.0 (word_reads (good_open seen) x.0 x.1) kind_at
 
 abbrev items_at : (n : ℕ) (t : List ℕ) (seen : Bool) (a : ℕ) → a ≤ length t → Moves (FromItems false) (FromItems seen) t 0 a → Whole t
-items_at zero t seen a l m = none
+items_at zero t seen a l m = None
 items_at (suc n) t seen a l m = when (of is_space t a) (λ o. items_at n t seen (suc a) o.within (moves_on m (items_blanks seen o.within (go_on o stop))))
-    (λ f. when (is_equal a (length t)) (λ e. some (finish_of seen a, finish_told seen t a e m))
+    (λ f. when (is_equal a (length t)) (λ e. Some (finish_of seen a, finish_told seen t a e m))
     (λ g. open_at n t (items_at n t) seen a l (moves_on m (item_begins seen t a (strictly l g) f))))
 
 -- a whole text of at most 64 KiB
 abbrev pub Scan : List ℕ → Type 0
-Scan t = Option ((r : Step) × Scanned t r)
+Scan t = Option ((r : Result ℕ Stop) × Scanned t r)
 
-within_limit : {t : List ℕ} {r : Step} → length t ≤ 65536 → ItemsRead t r → place_of r ≤ 65536
+within_limit : {t : List ℕ} {r : Result ℕ Stop} → length t ≤ 65536 → ItemsRead t r → place_of r ≤ 65536
 within_limit {t} {r} h x = go r x.ends x.read
   where
-    go : (r : Step) → EndsAt t r → Reads (FromItems false) Nothing t 0 r → place_of r ≤ 65536
-    go (At e) y z = omega arith
-    go (Bad k) y (bad s f) = omega (arith, s.inside)
-    go (Over k) y (over s f) = omega (arith, s.order, s.inside)
+    go : (r : Result ℕ Stop) → EndsAt t r → Reads (FromItems false) Nothing t 0 r → place_of r ≤ 65536
+    go (Ok e) y z = omega arith
+    go (Err (Bad k)) y (bad s f) = omega (arith, s.inside)
+    go (Err (Over k)) y (over s f) = omega (arith, s.order, s.inside)
 
-pub whole_scanned : {t : List ℕ} {r : Step} → length t ≤ 65536 → ItemsRead t r → Scanned t r
+pub whole_scanned : {t : List ℕ} {r : Result ℕ Stop} → length t ≤ 65536 → ItemsRead t r → Scanned t r
 whole_scanned {t} {r} h x = scanned t t (length t) (omega arith) (sym (take_all (length t) t (omega arith))) r (within_limit h x) x
 
 abbrev scan_of : (t : List ℕ) → length t ≤ 65536 → Whole t → Scan t
-scan_of t h none = none
-scan_of t h (some x) = some (x.0, whole_scanned h x.1)
+scan_of t h None = None
+scan_of t h (Some x) = Some (x.0, whole_scanned h x.1)
 
 abbrev pub scan_at : (n : ℕ) (t : List ℕ) → Scan t
-scan_at n t = when (is_at_most (length t) 65536) (λ h. scan_of t h (items_at n t false 0 (omega arith) (start t))) (λ f. none)
+scan_at n t = when (is_at_most (length t) 65536) (λ h. scan_of t h (items_at n t false 0 (omega arith) (start t))) (λ f. None)

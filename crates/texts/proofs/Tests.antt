@@ -1,20 +1,11 @@
 -- Tests of the bytes of a text, and the smallest pieces read by them. Assumes nothing.
-use Prim.Native.Nat.{ℕ, zero, suc, ◌+◌, ◌≤◌}
-use mathlib.Core.Path.{◌≡◌, refl, subst}
-use mathlib.Core.Logic.{inl, inr}
-use mathlib.Core.Bool.{Bool, true, false}
-use mathlib.Core.List.{List, [], ◌∷◌}
-use mathlib.Core.Option.{Option, none, some}
-use native.Mathlib.Omega.{arith}
-use lib.Dec.{T, eqb}
-use lib.ListN.{length, get_or}
-use borrow.Author.Tests.{eqb-true, eq-eqb}
+use Rattle.std.proofs.Common.{ℕ, zero, suc, ◌+◌, ◌≤◌, ◌≡◌, refl, subst, inl, inr, Bool, true, false, List, [], ◌∷◌, Option, Some, None, arith, T, eqb, length, get_or, eqb-true, eq-eqb, Result, Ok, Err}
 use Rattle.table.proofs.Test.{Test, means}
 use Rattle.grammar.specs.Bytes.{is_space, is_name_start, is_name_byte, Byte, Of, Span, stop, go_on, done}
 use Rattle.scan.specs.Steps.Agree.{peek}
 use Rattle.scan.specs.Steps.Readers.{BlanksRead, SpaceRead, MaybeRead, taken, left, NameRead, here, WordRead}
-use Rattle.scan.specs.declared.Step.{Step}
-use Rattle.scan.specs.declared.Step.TheVariants.{At, Bad, Over}
+use Rattle.scan.specs.declared.Stop.{Stop}
+use Rattle.scan.specs.declared.Stop.TheVariants.{Bad, Over}
 use Rattle.grammar.proofs.Stopping.{le_or_lt}
 use Rattle.scan.proofs.Agreeing.{peek_byte, peek_end}
 use Rattle.scan.proofs.Told.{span_more, word_more}
@@ -70,38 +61,38 @@ pub one_blank : {t : List ℕ} {a b : ℕ} → Of is_space t a → BlanksRead t 
 one_blank o x = record { inside = x.inside; blanks = go_on o x.blanks; over = x.over }
 
 abbrev blank_more : (t : List ℕ) (a : ℕ) → Of is_space t a → Blank t (suc a) → Blank t a
-blank_more t a o none = none
-blank_more t a o (some x) = some (x.0, one_blank o x.1)
+blank_more t a o None = None
+blank_more t a o (Some x) = Some (x.0, one_blank o x.1)
 
 abbrev pub blanks_at : (n : ℕ) (t : List ℕ) (a : ℕ) → a ≤ length t → Blank t a
-blanks_at zero t a l = none
-blanks_at (suc n) t a l = when (of is_space t a) (λ o. blank_more t a o (blanks_at n t (suc a) o.within)) (λ f. some (a, record { inside = l; blanks = stop; over = f }))
+blanks_at zero t a l = None
+blanks_at (suc n) t a l = when (of is_space t a) (λ o. blank_more t a o (blanks_at n t (suc a) o.within)) (λ f. Some (a, record { inside = l; blanks = stop; over = f }))
 
-abbrev space_more : (t : List ℕ) (a : ℕ) → Of is_space t a → Blank t (suc a) → Option ((r : Step) × SpaceRead t a r)
-space_more t a o none = none
-space_more t a o (some x) = some (At x.0, (o, x.1))
+abbrev space_more : (t : List ℕ) (a : ℕ) → Of is_space t a → Blank t (suc a) → Option ((r : Result ℕ Stop) × SpaceRead t a r)
+space_more t a o None = None
+space_more t a o (Some x) = Some (Ok x.0, (o, x.1))
 
-abbrev pub space_at : (n : ℕ) (t : List ℕ) (a : ℕ) → Option ((r : Step) × SpaceRead t a r)
-space_at n t a = when (of is_space t a) (λ o. space_more t a o (blanks_at n t (suc a) o.within)) (λ f. some (Bad a, (refl, f)))
+abbrev pub space_at : (n : ℕ) (t : List ℕ) (a : ℕ) → Option ((r : Result ℕ Stop) × SpaceRead t a r)
+space_at n t a = when (of is_space t a) (λ o. space_more t a o (blanks_at n t (suc a) o.within)) (λ f. Some (Err (Bad a), (refl, f)))
 
 -- one byte of a class, or none
 abbrev pub maybe_at : (class : ℕ → Bool) (t : List ℕ) (a : ℕ) → (b : ℕ) × MaybeRead class t a b
 maybe_at class t a = when (of class t a) (λ o. (suc a, taken o)) (λ f. (a, left f))
 
 -- a word
-abbrev word_more_of : (t : List ℕ) (c : ℕ) (cs : List ℕ) (a : ℕ) → Byte t a c → (r : Step) × WordRead t cs (suc a) r → (r : Step) × WordRead t (c ∷ cs) a r
+abbrev word_more_of : (t : List ℕ) (c : ℕ) (cs : List ℕ) (a : ℕ) → Byte t a c → (r : Result ℕ Stop) × WordRead t cs (suc a) r → (r : Result ℕ Stop) × WordRead t (c ∷ cs) a r
 word_more_of t c cs a b x = (x.0, word_more t cs c a b x.0 x.1)
 
-abbrev pub word_at : (cs t : List ℕ) (a : ℕ) → a ≤ length t → (r : Step) × WordRead t cs a r
-word_at [] t a l = (At a, (l, done))
-word_at (c ∷ cs) t a l = when (byte_is t a c) (λ b. word_more_of t c cs a b (word_at cs t (suc a) b.within)) (λ f. (Bad a, here l f))
+abbrev pub word_at : (cs t : List ℕ) (a : ℕ) → a ≤ length t → (r : Result ℕ Stop) × WordRead t cs a r
+word_at [] t a l = (Ok a, (l, done))
+word_at (c ∷ cs) t a l = when (byte_is t a c) (λ b. word_more_of t c cs a b (word_at cs t (suc a) b.within)) (λ f. (Err (Bad a), here l f))
 
 -- a name, of which n bytes more are allowed
-abbrev name_from : (n : ℕ) (t : List ℕ) (a i : ℕ) → n + i ≡ a + 32 → Of is_name_start t a → Span is_name_byte t (suc a) i → i ≤ length t → (r : Step) × NameRead t a r
-name_from zero t a i e o s l = when (of is_name_byte t i) (λ g. (Over i, record { start = o; rest = s; goes_on = g; long = omega (arith, e) }))
-    (λ f. (At i, record { inside = l; start = o; rest = s; over = f; short = omega (arith, e) }))
+abbrev name_from : (n : ℕ) (t : List ℕ) (a i : ℕ) → n + i ≡ a + 32 → Of is_name_start t a → Span is_name_byte t (suc a) i → i ≤ length t → (r : Result ℕ Stop) × NameRead t a r
+name_from zero t a i e o s l = when (of is_name_byte t i) (λ g. (Err (Over i), record { start = o; rest = s; goes_on = g; long = omega (arith, e) }))
+    (λ f. (Ok i, record { inside = l; start = o; rest = s; over = f; short = omega (arith, e) }))
 name_from (suc n) t a i e o s l = when (of is_name_byte t i) (λ g. name_from n t a (suc i) (omega (arith, e)) o (span_more s g) g.within)
-    (λ f. (At i, record { inside = l; start = o; rest = s; over = f; short = omega (arith, e) }))
+    (λ f. (Ok i, record { inside = l; start = o; rest = s; over = f; short = omega (arith, e) }))
 
-abbrev pub name_at : (t : List ℕ) (a : ℕ) → (r : Step) × NameRead t a r
-name_at t a = when (of is_name_start t a) (λ o. name_from 31 t a (suc a) (omega arith) o stop o.within) (λ f. (Bad a, (refl, f)))
+abbrev pub name_at : (t : List ℕ) (a : ℕ) → (r : Result ℕ Stop) × NameRead t a r
+name_at t a = when (of is_name_start t a) (λ o. name_from 31 t a (suc a) (omega arith) o stop o.within) (λ f. (Err (Bad a), (refl, f)))

@@ -3,6 +3,7 @@ use Prim.Native.Nat.{ℕ, ◌+◌, ◌≤◌, ◌<◌}
 use mathlib.Core.Path.{◌≡◌, refl, sym, ap, subst, ◌∙◌}
 use mathlib.Core.Logic.{◌≢◌, ◌⊎◌, inl, inr}
 use mathlib.Core.List.{List, [], ◌∷◌}
+use Rattle.std.proofs.Common.{Option, Some, None}
 use native.Mathlib.Omega.{arith}
 use Rattle.table.specs.Rule.{rule_at, kind_in, count_of, child_at, IsChoice, IsStar}
 use Rattle.table.specs.Steps.Numbering.{NumberedAs, replace_in}
@@ -15,7 +16,7 @@ use Rattle.policy.specs.Steps.Squares.{Square}
 use Rattle.policy.proofs.SquareLaws.{marked_told, told_marked}
 use Rattle.policy.proofs.Reaches.{reached_from, reached_to}
 use Rattle.verdict.specs.Breaches.{condition_number, StarBroken, at_exchange, at_below, InsertDeleteBreach, ChainBreach, CycleBreach, BreachOf, key}
-use Rattle.verdict.specs.Steps.Visits.{star_spot, Broken, FirstAt, Searched, none, first, BreachAt, CycleAt}
+use Rattle.verdict.specs.Steps.Visits.{star_spot, Broken, FirstAt, Searched, BreachAt, CycleAt}
 use Rattle.verdict.specs.declared.Spot.{Spot}
 use Rattle.verdict.specs.declared.Condition.{Condition}
 use Rattle.verdict.specs.declared.Condition.TheVariants.{InsertDelete, Chain, Cycle}
@@ -65,11 +66,11 @@ module _ (ws marks : List ℕ) (B : ℕ → ℕ → Type 0) (x : ℕ) where
     pub star_free : ¬ Barred ws marks x → ((q : ℕ) → ¬ B (child_at ws x 0) q) → (s : Spot) (p : ℕ) → ¬ BreachAt ws marks B x s p
     star_free d n s p b = elim (broken_here s p b) [ at_exchange f q ↦ d f | at_below f r w ↦ n p w ]
 
-    pub star_first : {p : ℕ} → StarBroken ws marks B x p → Searched (BreachAt ws marks B x) (star_spot x)
-    star_first {p} f = first (record {
+    pub star_first : {p : ℕ} → StarBroken ws marks B x p → Searched (BreachAt ws marks B x) (Some (star_spot x))
+    star_first {p} f = record {
       broken = (p, record { breach = record { star = star; zero_i = refl; zero_j = refl; broken = f }; here = refl });
       first = λ s q b l. go s q b (star_only star s q b) l;
-    })
+    }
       where
         go : (s : Spot) (q : ℕ) → BreachAt ws marks B x s q → (s.condition ≡ InsertDelete) × InsertDeleteBreach ws marks B s q → ¬ Lex (key s) (x ∷ 1 ∷ 0 ∷ 0 ∷ [])
         go s q b (k, h) l =
@@ -96,8 +97,8 @@ module _ (ws marks : List ℕ) (B : ℕ → ℕ → Type 0) (x : ℕ) where
         free s.i (omega (arith, numbered.count, reached_from r)) s.j (omega (arith, numbered.count, reached_to r)) (chain_broken s p h e)
 
     pub chain_first : {i j : ℕ} → FirstAt (Broken marks n square) n.count i j
-        → Searched (BreachAt ws marks B x) (record { condition = Chain; element = x; i = i; j = j })
-    chain_first {i} {j} f = first (record {
+        → Searched (BreachAt ws marks B x) (Some (record { condition = Chain; element = x; i = i; j = j }))
+    chain_first {i} {j} f = record {
       broken = (
         replace_in n i j,
         record {
@@ -112,7 +113,7 @@ module _ (ws marks : List ℕ) (B : ℕ → ℕ → Type 0) (x : ℕ) where
         },
       );
       first = λ s p b l. go s p b.here (choice_only choice s p b) l;
-    })
+    }
       where
         pair : (s : Spot) (p : ℕ) → s.element ≡ x → ChainBreach ws marks s p → Lex (s.i ∷ s.j ∷ []) (i ∷ j ∷ []) → ⊥
         pair s p e h l = at (lex_cases l)
@@ -136,8 +137,8 @@ module _ (ws marks : List ℕ) (B : ℕ → ℕ → Type 0) (x : ℕ) where
 
     -- where there is no chain, the first cycle is the first breach
     pub choice_at : ((a : ℕ) → a < n.count → (b : ℕ) → b < n.count → ¬ Broken marks n square a b)
-        → {s : Spot} → Searched (CycleAt ws marks B x) s → Searched (BreachAt ws marks B x) s
-    choice_at free {s} found = by found
+        → (found : Option Spot) → Searched (CycleAt ws marks B x) found → Searched (BreachAt ws marks B x) found
+    choice_at free found = by found
       where
         cycle : (s : Spot) (p : ℕ) → BreachAt ws marks B x s p → CycleAt ws marks B x s p
         cycle s p h = elim (choice_only choice s p h) [
@@ -145,15 +146,15 @@ module _ (ws marks : List ℕ) (B : ℕ → ℕ → Type 0) (x : ℕ) where
           | inr g ↦ record { of_cycle = g.0; breach = g.1; here = h.here }
         ]
 
-        by : Searched (CycleAt ws marks B x) s → Searched (BreachAt ws marks B x) s
-        by (none e f) = none e (λ t p h. f t p (cycle t p h))
-        by (first f) =
+        by : (found : Option Spot) → Searched (CycleAt ws marks B x) found → Searched (BreachAt ws marks B x) found
+        by None f = λ t p h. f t p (cycle t p h)
+        by (Some s) f =
             let p = f.broken.0 in
             let h = f.broken.1 in
-            first (record {
+            record {
               broken = (p, record { breach = subst (λ (d : Condition). BreachOf ws marks B d s p) (sym h.of_cycle) h.breach; here = h.here });
               first = λ t q g. f.first t q (cycle t q g);
-            })
+            }
 
   -- cycles, position by position: those before i have none
   abbrev pub CyclesFrom : ℕ → Type 0
@@ -176,11 +177,11 @@ module _ (ws marks : List ℕ) (B : ℕ → ℕ → Type 0) (x : ℕ) where
       omega (arith, reached_from r)
 
   pub cycle_first : {i p : ℕ} → IsChoice ws x → CyclesFrom i → Reached ws (Allowed marks) x i i → B (child_at ws x i) p
-      → Searched (CycleAt ws marks B x) (record { condition = Cycle; element = x; i = i; j = i })
-  cycle_first {i} {p} choice g r f = first (record {
+      → Searched (CycleAt ws marks B x) (Some (record { condition = Cycle; element = x; i = i; j = i }))
+  cycle_first {i} {p} choice g r f = record {
     broken = (p, record { of_cycle = refl; breach = record { choice = choice; same = refl; reached = r; below = f }; here = refl });
     first = λ s q h l. at s q h (lex_cases (lex_more (omega (arith, ap condition_number h.of_cycle)) (lex_more (omega (arith, h.here)) l)));
-  })
+  }
     where
       at : (s : Spot) (q : ℕ) → CycleAt ws marks B x s q → (s.i < i) ⊎ ((s.i ≡ i) × Lex (s.j ∷ []) (i ∷ [])) → ⊥
       at s q h (inl k) = omega (arith, g s q h)

@@ -26,8 +26,7 @@ use Rattle.chain.proofs.Chains.{fewest_short, chain_places}
 use Rattle.verdict.specs.Below.{ForbiddenBelow, ForbiddenTally}
 use Rattle.verdict.specs.Breaches.{condition_number, spot_of, chain_in, StarBroken, at_exchange, at_below, InsertDeleteBreach, ChainBreach, CycleBreach, BreachOf, BreachBy, IsBreach, FirstSpot, StepsOf, ChainAt, FirstBreach, Verdict, clean, broken}
 use Rattle.verdict.specs.Breaches.{PassesOn, star, replace, chain, cycle}
-use Rattle.verdict.specs.Conditions.{Clean}
-use Rattle.verdict.specs.Steps.Visits.{star_spot, Searched, none, first}
+use Rattle.verdict.specs.Steps.Visits.{star_spot}
 use Rattle.verdict.specs.Steps.Breakers.{BreakerAt}
 use Rattle.verdict.specs.Steps.Breakers as breaker
 use Rattle.verdict.specs.declared.Breach.{Breach}
@@ -35,8 +34,8 @@ use Rattle.verdict.specs.declared.Spot.{Spot}
 use Rattle.verdict.specs.declared.breaches.Breaker.{Breaker}
 use Rattle.verdict.specs.declared.breaches.Breaker.TheVariants.{Own, Below}
 use Rattle.verdict.specs.declared.Condition.{Condition}
-use Rattle.verdict.specs.declared.Condition.TheVariants.{None, InsertDelete, Chain, Cycle}
-use Rattle.verdict.proofs.Firsts.{breach_cases, broken_some, none_clean}
+use Rattle.verdict.specs.declared.Condition.TheVariants.{InsertDelete, Chain, Cycle}
+use Rattle.verdict.proofs.Firsts.{breach_cases}
 
 -- where the exchange is not what breaks a star, it is not forbidden with insert and delete both allowed
 pub unbarred : {marks : List ℕ} {n : Numbering} (r : Renewal) → RenewalIn marks n r → r ≢ Renewal.Barred → ¬ BarredIn marks n
@@ -167,11 +166,6 @@ module _ (ws marks : List ℕ) where
 
     pub cycle_steps : s.condition ≡ Cycle → s.j ≡ s.i → ShortestChain (Step ws (Allowed marks) s.element) s.i s.i c → ChainAt ws marks s c
     cycle_steps e same h = chain_of_lem e h.positions (subst⁻¹ (λ (k : ℕ). Fewest (Step ws (Allowed marks) s.element) s.i k h.positions) same h.fewest) h.is
-
-  -- a search that finds no spot has shown that the policy is clean
-  pub searched_clean : {s : Spot} → Searched (IsBreach ws marks) s → s.condition ≡ None → Clean ws marks
-  searched_clean (none e n) k = none_clean ws marks n
-  searched_clean {s} (first f) k = absurd (broken_some ws marks Here s f.broken.0 f.broken.1 k)
 
   -- the first breach is the first spot with what breaks it and its chain
   pub tally_first : {b : Breach} → FirstSpot (IsBreach ws marks) (spot_of b) → Tallied (IsBreach ws marks (spot_of b)) (privileges ws) b.privilege b.forbidden

@@ -3,6 +3,8 @@ use Prim.Native.Nat.{ℕ, ◌+◌, ◌≤◌, ◌<◌}
 use mathlib.Core.Path.{◌≡◌, refl, sym, ap, subst, ◌∙◌}
 use mathlib.Core.Logic.{◌≢◌, ◌⊎◌, inl, inr}
 use mathlib.Core.List.{List, [], ◌∷◌}
+use Rattle.std.proofs.Common.{Option, Some}
+use Rattle.std.proofs.Common as std
 use native.Mathlib.Omega.{arith}
 use lib.ListN.{get_or}
 use Rattle.table.specs.Words.{types}
@@ -18,7 +20,7 @@ use Rattle.verdict.specs.Below.{ForbiddenBelow}
 use Rattle.verdict.specs.Conditions.{Clean}
 use Rattle.verdict.specs.Breaches.{condition_number, spot_of, chain_in, at_exchange, at_below, InsertDeleteBreach, ChainBreach, CycleBreach, BreachOf, BreachBy, IsBreach, key}
 use Rattle.verdict.specs.Breaches.{FirstSpot, StepsOf, ChainAt, FirstBreach, Verdict, clean, broken}
-use Rattle.verdict.specs.Steps.Visits.{Searched, none, first, BreachAt}
+use Rattle.verdict.specs.Steps.Visits.{Searched, BreachAt}
 use Rattle.verdict.specs.declared.Spot.{Spot}
 use Rattle.verdict.specs.declared.Breach.{Breach}
 use Rattle.verdict.specs.declared.Condition.{Condition}
@@ -113,14 +115,12 @@ module _ (ws marks : List ℕ) (B : ℕ → ℕ → Type 0) where
   pub broken_some : (s : Spot) (p : ℕ) → BreachBy ws marks B s p → s.condition ≢ None
   broken_some s p h e = subst (λ (c : Condition). BreachOf ws marks B c s p) e h
 
-  -- what was found at one type, by its condition
-  pub at_none : {x : ℕ} {s : Spot} → Searched (BreachAt ws marks B x) s → s.condition ≡ None → (t : Spot) (p : ℕ) → BreachBy ws marks B t p → t.element ≢ x
-  at_none (none e n) k = λ t p h q. n t p (record { breach = h; here = q })
-  at_none {s = s} (first f) k = absurd (broken_some s f.broken.0 f.broken.1.breach k)
+  -- what was found at one type: none, or the first
+  pub at_none : {x : ℕ} → Searched (BreachAt ws marks B x) std.None → (t : Spot) (p : ℕ) → BreachBy ws marks B t p → t.element ≢ x
+  at_none n t p h q = n t p (record { breach = h; here = q })
 
-  pub at_first : {x : ℕ} {s : Spot} → CleanBefore x → Searched (BreachAt ws marks B x) s → s.condition ≢ None → Searched (BreachBy ws marks B) s
-  at_first h (none e n) d = absurd (d (ap (λ (t : Spot). t.condition) e))
-  at_first {x} {s} h (first f) d = first (record { broken = (f.broken.0, f.broken.1.breach); first = λ t p c l. go t p c l (lex_cases l) })
+  pub at_first : {x : ℕ} {s : Spot} → CleanBefore x → Searched (BreachAt ws marks B x) (Some s) → Searched (BreachBy ws marks B) (Some s)
+  at_first {x} {s} h f = record { broken = (f.broken.0, f.broken.1.breach); first = λ t p c l. go t p c l (lex_cases l) }
     where
       go : (t : Spot) (p : ℕ) → BreachBy ws marks B t p → Lex (key t) (key s)
           → (t.element < s.element) ⊎ ((t.element ≡ s.element) × Lex (condition_number t.condition ∷ t.i ∷ t.j ∷ []) (condition_number s.condition ∷ s.i ∷ s.j ∷ []))
@@ -129,9 +129,8 @@ module _ (ws marks : List ℕ) (B : ℕ → ℕ → Type 0) where
       go t p c l (inr (e, k)) = f.first t p (record { breach = c; here = e ∙ f.broken.1.here }) l
 
 -- what a search has found is the first spot
-pub searched_first : {Breaks : Spot → ℕ → Type 0} {s : Spot} → Searched Breaks s → s.condition ≢ None → FirstSpot Breaks s
-searched_first (none e n) d = absurd (d (ap (λ (t : Spot). t.condition) e))
-searched_first (first f) d = f
+pub searched_first : {Breaks : Spot → ℕ → Type 0} (found : Option Spot) {s : Spot} → Searched Breaks found → found ≡ Some s → FirstSpot Breaks s
+searched_first found h e = rw e at h
 
 module _ (ws marks : List ℕ) where
   abbrev Here : ℕ → ℕ → Type 0

@@ -3,6 +3,8 @@
 use Prim.Native.Nat.{ℕ, ◌<◌}
 use mathlib.Core.Path.{refl}
 use mathlib.Core.List.{List}
+use Rattle.std.proofs.Common.{Option, Some}
+use Rattle.std.proofs.Common as std
 use native.Mathlib.Omega.{arith}
 use Rattle.table.specs.Words.{types}
 use Rattle.table.specs.Rule.{child_at, IsStar}
@@ -11,7 +13,7 @@ use Rattle.table.proofs.Facts.{facts}
 use Rattle.policy.proofs.Reaches.{reached_from}
 use Rattle.verdict.specs.Breaches.{StarBroken, at_exchange, at_below, BreachOf, BreachBy, FirstSpot}
 use Rattle.verdict.specs.Steps.Spoils.{Agree}
-use Rattle.verdict.specs.Steps.Visits.{Searched, none, first}
+use Rattle.verdict.specs.Steps.Visits.{Searched}
 use Rattle.verdict.specs.Steps.Breakers.{Breakable}
 use Rattle.verdict.specs.declared.Spot.{Spot}
 use Rattle.verdict.specs.declared.Condition.{Condition}
@@ -52,6 +54,6 @@ module _ {ws : List ℕ} (marks : List ℕ) (a : Accepted ws) where
   }
 
   -- and so is what a search finds
-  pub searched_as : {B C : ℕ → ℕ → Type 0} {s : Spot} → Agree ws B C → Searched (BreachBy ws marks B) s → Searched (BreachBy ws marks C) s
-  searched_as g (none e n) = none e (λ t q h. let r = breach_as g.back t q h in n t r.0 r.1)
-  searched_as g (first f) = first (spot_as g f)
+  pub searched_as : {B C : ℕ → ℕ → Type 0} → Agree ws B C → (found : Option Spot) → Searched (BreachBy ws marks B) found → Searched (BreachBy ws marks C) found
+  searched_as g std.None n = λ t q h. let r = breach_as g.back t q h in n t r.0 r.1
+  searched_as g (Some s) f = spot_as g f

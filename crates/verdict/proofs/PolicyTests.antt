@@ -14,8 +14,7 @@ use Rattle.table.specs.Rule.{count_of, child_at}
 use Rattle.table.specs.Privilege.{privileges, insert_of, delete_of, exchange_of, replace_of}
 use Rattle.table.specs.Check.{Accepted}
 use Rattle.table.specs.Steps.Found.{Lowest}
-use Rattle.table.specs.declared.Found.{Found}
-use Rattle.table.specs.declared.Found.TheVariants.{At, Nothing}
+use Rattle.std.specs.Prelude.{Option as Place, Some as At, None as Nowhere}
 use Rattle.table.proofs.Test.{Test, is_at_most, is_equal, both, either, fails, means, settle, some, every, lowest_of, lowest_of_lem}
 use Rattle.table.proofs.Answers.{accepted_answer}
 use Rattle.table.proofs.TableTests.{of_kind, exchangeable, replaceable, belongs, answer_of, answer_of_lem}
@@ -77,9 +76,9 @@ module _ (ws marks : List ℕ) where
       (both (forbidden marks p) (privilege_below ws p y))
 
   -- what is forbidden below y
-  abbrev lowest_in : Found → ℕ
+  abbrev lowest_in : Place ℕ → ℕ
   lowest_in (At p) = p
-  lowest_in Nothing = 0
+  lowest_in Nowhere = 0
 
   abbrev pub tally_by : ℕ → Tally
   tally_by y = record { lowest = lowest_in (lowest_of (privileges ws) (λ p. fails (forbidden_below y p))); count = how_many_by (privileges ws) (forbidden_below y) }
@@ -90,11 +89,11 @@ module _ (ws marks : List ℕ) where
       many : HowMany (ForbiddenBelow ws marks y) (privileges ws) (how_many_by (privileges ws) (forbidden_below y))
       many = count_by (privileges ws) (forbidden_below y)
 
-      go : (r : Found) → Lowest (λ p. ¬ ForbiddenBelow ws marks y p) (privileges ws) r
+      go : (r : Place ℕ) → Lowest (λ p. ¬ ForbiddenBelow ws marks y p) (privileges ws) r
           → Tallied (ForbiddenBelow ws marks y) (privileges ws) (lowest_in r) (how_many_by (privileges ws) (forbidden_below y))
       go (At p) h = Tallied.some h.within (elim (settle (forbidden_below y p)) [ inl f ↦ f | inr f ↦ absurd (h.fails f) ])
           (λ q l f. elim (le_or_lt p q) [ inl k ↦ k | inr k ↦ absurd (h.before q k f) ]) many
-      go Nothing h = Tallied.nothing h refl (many_one many (many_none (privileges ws) h))
+      go Nowhere h = Tallied.nothing h refl (many_one many (many_none (privileges ws) h))
 
   abbrev pub step : (x i j : ℕ) → Test (Step ws (Allowed marks) x i j)
   step x i j = means (λ h. record { can = h.0; allowed = h.1 }) (λ h. (h.can, h.allowed))

@@ -16,8 +16,6 @@ use Rattle.verdict.specs.Breaches.{spot_of, at_exchange, at_below, InsertDeleteB
 use Rattle.verdict.specs.Breaches.{FirstSpot, StarBroken, FirstBreach, PassesOn, star, replace, chain, cycle}
 use Rattle.verdict.specs.Kept.{entry_of, KeptBelow, KeptTally, KeptBreach}
 use Rattle.verdict.specs.Steps.Spoils.{Flag, up, down}
-use Rattle.verdict.specs.Steps.Visits.{Searched}
-use Rattle.verdict.specs.Steps.Visits as visit
 use Rattle.verdict.specs.Steps.Breakers.{Breakable, BreakerAt, BreachWith}
 use Rattle.verdict.specs.Steps.Breakers as breaker
 use Rattle.verdict.specs.Steps.Reading.{FlagOf, none, ChildIn, TallyBy, FirstBy}
@@ -25,11 +23,10 @@ use Rattle.verdict.specs.Steps.Reading as reading
 use Rattle.verdict.specs.declared.Breach.{Breach}
 use Rattle.verdict.specs.declared.Spot.{Spot}
 use Rattle.verdict.specs.declared.Condition.{Condition}
-use Rattle.verdict.specs.declared.Condition.TheVariants.{None, InsertDelete, Chain, Cycle}
+use Rattle.verdict.specs.declared.Condition.TheVariants.{InsertDelete, Chain, Cycle}
 use Rattle.verdict.specs.declared.below.Tally.{Tally}
 use Rattle.verdict.specs.declared.breaches.Breaker.{Breaker}
 use Rattle.verdict.specs.declared.breaches.Breaker.TheVariants.{Own, Below}
-use Rattle.verdict.proofs.Firsts.{broken_some}
 use Rattle.verdict.proofs.Flagged.{breach_can}
 use Rattle.verdict.proofs.Breakers.{breaker_type, own_tally, child_tally, tally_first}
 
@@ -96,12 +93,6 @@ module _ (ws marks kept : List ℕ) (b : Breach) (f : FirstSpot (BreachBy ws mar
     made (breaker.replacement e is) g = let a = alone g in (by_replacement e (a.0 ∙ is), chain e a.1)
     made (breaker.star e d i is) g = let a = are g is in (by_child e d a, star e d (told _ a))
     made (breaker.cycle e i is) g = let a = are g is in (by_cycle e a, cycle e (told _ a))
-
--- a search that finds no spot has shown that there is none
-pub searched_none : (ws marks kept : List ℕ) {s : Spot} → Searched (BreachBy ws marks (KeptBelow kept)) s → s.condition ≡ None → (t : Spot) (p : ℕ)
-    → ¬ BreachBy ws marks (KeptBelow kept) t p
-searched_none ws marks kept (visit.none e n) k = n
-searched_none ws marks kept {s} (visit.first f) k = absurd (broken_some ws marks (KeptBelow kept) s f.broken.0 f.broken.1 k)
 
 -- a child that is asked for is a type
 pub child_in : (ws marks : List ℕ) (s : Spot) (r : Breaker) → BreakerAt ws marks s r → ChildIn ws r

@@ -5,5 +5,6 @@ pub mod Forces
 pub mod Carried
 pub mod Breaches
 pub mod Answers
+pub mod Results
 pub mod Kept
 pub mod Steps

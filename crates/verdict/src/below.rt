@@ -1,5 +1,5 @@
 // What is forbidden below a type: the lowest privilege, and how many there are. Contracts cite specs/Below, and specs/Steps/Tallies for the parts.
-ghost use Rattle.std.specs.Prelude.{ℕ, ◌≤◌, ◌<◌, length};
+ghost use Rattle.std.specs.Prelude.{◌≡◌, ℕ, ◌==◌, ◌≤◌, ◌<◌, length, position};
 ghost use Rattle.table.specs.HowMany.{HowMany, Tallied};
 ghost use Rattle.table.specs.Privilege.{privileges};
 ghost use Rattle.table.specs.Words.{types};
@@ -25,14 +25,19 @@ fn count_forbidden(marks: &[u8], from: usize, until: usize) -> usize
     ensures { HowMany (Range marks.now from until) until result }
 {
     let mut count = 0u16;
-    let mut p = from;
-    while p < until {
-        if marks[p] == 2 {
+    for mark in &marks[from..until] {
+        if *mark == 2 {
             count += 1;
         }
-        p += 1;
     }
-    count as usize
+    usize::from(count)
+}
+
+// The place of the first forbidden mark, or none.
+fn first_forbidden(marks: &[u8]) -> Option<usize>
+    ensures { result ≡ position (λ m. m == 2) marks.now }
+{
+    marks.iter().position(|mark| *mark == 2)
 }
 
 // The lowest forbidden privilege from a number on, where there is one.
@@ -40,11 +45,7 @@ fn lowest_from(marks: &[u8], from: usize) -> usize
     requires { (p : ℕ) × (from ≤ p) × Forbidden marks.now p }
     ensures { LowestFrom marks.now from result }
 {
-    let mut p = from;
-    while marks[p] != 2 {
-        p += 1;
-    }
-    p
+    from + first_forbidden(&marks[from..]).unwrap()
 }
 
 // Adds what is forbidden in a stretch of privileges, if its flag is 1, to what was counted before it.
@@ -84,12 +85,10 @@ fn tally_flagged(words: &[u16], marks: &[u8], flags: &[u8; 256]) -> Tally
         count: 0,
     };
     let mut first = 0;
-    let mut x = 0;
-    while x < e {
+    for x in 0..e {
         let next = first + privileges_in(words, x, gap);
         tally = add_stretch(marks, first, next, flags[x], tally);
         first = next;
-        x += 1;
     }
     tally
 }

@@ -15,7 +15,7 @@ ghost use Rattle.verdict.specs.Breaches.{no_breach, BreachBy, ChainAt, Verdict};
 ghost use Rattle.verdict.specs.Steps.Spoils.{Flagged};
 ghost use Rattle.verdict.specs.Steps.Breakers.{Breakable, BreakerAt, BreachWith};
 ghost use Rattle.verdict.specs.Steps.Reading.{Lent, FlagsBy, AskedOf, ChildIn, TallyBy, FirstBy, BrokenBy, VerdictBy};
-ghost use Rattle.verdict.specs.Steps.Visits.{no_spot, star_spot, Visited, Broken, FirstPair, Searched, BreachAt, CycleAt};
+ghost use Rattle.verdict.specs.Steps.Visits.{star_spot, Visited, Broken, FirstPair, Searched, BreachAt, CycleAt};
 
 use super::below::{Tally, forbidden_below};
 use super::kept::{entry_at, flag_kept};
@@ -30,13 +30,6 @@ use table::privilege::{
 };
 use table::rule::{Rule, child_at, children, rule_at};
 use table::words::{types, word_at};
-
-// A pair of positions, or none.
-#[derive(Clone, Copy)]
-pub enum Pair {
-    At(usize, usize),
-    Nothing,
-}
 
 // What breaks a spot: a privilege of its type by itself, or what is forbidden below a child.
 #[derive(Clone, Copy)]
@@ -58,19 +51,7 @@ pub fn no_breach() -> Breach
         privilege: 0,
         forbidden: 0,
         length: 0,
-        chain: chain,
-    }
-}
-
-// No spot: four zeros.
-fn no_spot() -> Spot
-    ensures { result ≡ no_spot }
-{
-    Spot {
-        condition: Condition::None,
-        element: 0,
-        i: 0,
-        j: 0,
+        chain,
     }
 }
 
@@ -86,30 +67,29 @@ fn is_broken(
     requires { Small n × (i < n.count) × (j < n.count) × Square n.count (ForbiddenIn marks.now n) forbidden.now }
     ensures { Tells (Broken marks.now n square.now i j) result }
 {
-    if !leads(square, i, j) {
-        return false;
-    }
-    leads(forbidden, i, j)
+    leads(square, i, j) && leads(forbidden, i, j)
 }
 
 // The first such pair: the lowest i, then the lowest j.
-fn first_broken(marks: &[u8], n: Numbering, square: &[u16; 16], forbidden: &[u16; 16]) -> Pair
+fn first_broken(
+    marks: &[u8],
+    n: Numbering,
+    square: &[u16; 16],
+    forbidden: &[u16; 16],
+) -> Option<(usize, usize)>
     requires { Small n × Square n.count (ForbiddenIn marks.now n) forbidden.now }
     ensures { FirstPair (Broken marks.now n square.now) n.count result }
 {
     let count = n.count;
-    let mut found = Pair::Nothing;
-    let mut i = 0;
-    'search: while i < count {
-        let mut j = first_shared(square, forbidden, i, count);
-        while j < count {
+    let mut found = None;
+    'search: for i in 0..count {
+        let first = first_shared(square, forbidden, i, count);
+        for j in first..count {
             if is_broken(marks, n, square, forbidden, i, j) {
-                found = Pair::At(i, j);
+                found = Some((i, j));
                 break 'search;
             }
-            j += 1;
         }
-        i += 1;
     }
     found
 }
@@ -127,14 +107,21 @@ fn star_spot(x: usize) -> Spot
 }
 
 // The first breach at the star x, whose child can be renewed, and whose exchange is not the one that breaks it.
-fn renewed_breach(words: &[u16], marks: &[u8], flags: &[u8; 256], x: usize, kids: &[u16]) -> Spot
+fn renewed_breach(
+    words: &[u16],
+    marks: &[u8],
+    flags: &[u8; 256],
+    x: usize,
+    kids: &[u16],
+) -> Option<Spot>
     requires { Visited words.now marks.now x kids.now × IsStar words.now x × (Barred words.now marks.now x → ⊥) × Renewed words.now (Allowed marks.now) x }
     ensures { Searched (BreachAt words.now marks.now (Flagged flags.now) x) result }
 {
     if flags[word_at(kids, 0)] == 1 {
-        return star_spot(x);
+        Some(star_spot(x))
+    } else {
+        None
     }
-    no_spot()
 }
 
 // The first breach at the star x.
@@ -145,14 +132,13 @@ pub fn star_breach(
     x: usize,
     kids: &[u16],
     n: Numbering,
-) -> Spot
+) -> Option<Spot>
     requires { Visited words.now marks.now x kids.now × NumberedAs words.now x n × IsStar words.now x }
     ensures { Searched (BreachAt words.now marks.now (Flagged flags.now) x) result }
 {
-    let renewal = renewal_of(marks, n);
-    match renewal {
-        Renewal::Shut => no_spot(),
-        Renewal::Barred => star_spot(x),
+    match renewal_of(marks, n) {
+        Renewal::Shut => None,
+        Renewal::Barred => Some(star_spot(x)),
         Renewal::Open => renewed_breach(words, marks, flags, x, kids),
     }
 }
@@ -162,10 +148,7 @@ fn is_spoilt(flags: &[u8; 256], kids: &[u16], square: &[u16; 16], i: usize) -> b
     requires { (i < 16) × (i < length kids.now) × (get_or kids.now i 0 < 256) }
     ensures { Tells ((marked square.now i i ≡ true) × Flagged flags.now (get_or kids.now i 0) 0) result }
 {
-    if !leads(square, i, i) {
-        return false;
-    }
-    flags[word_at(kids, i)] == 1
+    leads(square, i, i) && flags[word_at(kids, i)] == 1
 }
 
 // The first breach of condition 3 at the choice x, whose square tells what is reached.
@@ -176,23 +159,21 @@ pub fn cycle_breach(
     x: usize,
     kids: &[u16],
     square: &[u16; 16],
-) -> Spot
+) -> Option<Spot>
     requires { Visited words.now marks.now x kids.now × IsChoice words.now x × Square (count_of words.now x) (Reached words.now (Allowed marks.now) x) square.now }
     ensures { Searched (CycleAt words.now marks.now (Flagged flags.now) x) result }
 {
-    let mut i = 0;
-    while i < kids.len() {
+    for i in 0..kids.len() {
         if is_spoilt(flags, kids, square, i) {
-            return Spot {
+            return Some(Spot {
                 condition: Condition::Cycle,
                 element: x,
-                i: i,
+                i,
                 j: i,
-            };
+            });
         }
-        i += 1;
     }
-    no_spot()
+    None
 }
 
 // The first breach at the choice x, whose squares tell what is reached and what is forbidden: a chain before a cycle.
@@ -205,18 +186,17 @@ pub fn breach_in(
     n: Numbering,
     square: &[u16; 16],
     forbidden: &[u16; 16],
-) -> Spot
+) -> Option<Spot>
     requires { Visited words.now marks.now x kids.now × NumberedAs words.now x n × IsChoice words.now x × Square (count_of words.now x) (Reached words.now (Allowed marks.now) x) square.now × Square n.count (ForbiddenIn marks.now n) forbidden.now }
     ensures { Searched (BreachAt words.now marks.now (Flagged flags.now) x) result }
 {
-    let chain = first_broken(marks, n, square, forbidden);
-    if let Pair::At(i, j) = chain {
-        return Spot {
+    if let Some((i, j)) = first_broken(marks, n, square, forbidden) {
+        return Some(Spot {
             condition: Condition::Chain,
             element: x,
-            i: i,
-            j: j,
-        };
+            i,
+            j,
+        });
     }
     cycle_breach(words, marks, flags, x, kids, square)
 }
@@ -229,7 +209,7 @@ fn choice_breach(
     x: usize,
     kids: &[u16],
     n: Numbering,
-) -> Spot
+) -> Option<Spot>
     requires { Visited words.now marks.now x kids.now × NumberedAs words.now x n × IsChoice words.now x }
     ensures { Searched (BreachAt words.now marks.now (Flagged flags.now) x) result }
 {
@@ -241,16 +221,13 @@ fn choice_breach(
 }
 
 // The first breach at type x, whose first privilege is given.
-fn breach_at(words: &[u16], marks: &[u8], flags: &[u8; 256], x: usize, first: usize) -> Spot
+fn breach_at(words: &[u16], marks: &[u8], flags: &[u8; 256], x: usize, first: usize) -> Option<Spot>
     requires { Policy words.now marks.now × (x < types words.now) × (first ≡ first_privilege words.now x) }
     ensures { Searched (BreachAt words.now marks.now (Flagged flags.now) x) result }
 {
-    let rule = rule_at(words, x);
-    match rule {
-        Rule::Empty => no_spot(),
-        Rule::Text => no_spot(),
-        Rule::Sequence { first: _, count: _ } => no_spot(),
-        Rule::Choice { first: _, count: _ } => {
+    match rule_at(words, x) {
+        Rule::Empty | Rule::Text | Rule::Sequence { .. } => None,
+        Rule::Choice { .. } => {
             choice_breach(
                 words,
                 marks,
@@ -260,7 +237,7 @@ fn breach_at(words: &[u16], marks: &[u8], flags: &[u8; 256], x: usize, first: us
                 numbers_at(words, x, first),
             )
         }
-        Rule::Star { first: _, count: _ } => {
+        Rule::Star { .. } => {
             star_breach(
                 words,
                 marks,
@@ -273,26 +250,22 @@ fn breach_at(words: &[u16], marks: &[u8], flags: &[u8; 256], x: usize, first: us
     }
 }
 
-// Where the first breach of a policy by the flags is.
-fn first_spot(words: &[u16], marks: &[u8], flags: &[u8; 256]) -> Spot
+// Where the first breach of a policy by the flags is, if there is one.
+fn first_spot(words: &[u16], marks: &[u8], flags: &[u8; 256]) -> Option<Spot>
     requires { Policy words.now marks.now }
     ensures { Searched (BreachBy words.now marks.now (Flagged flags.now)) result }
 {
     let gap = gap_of(words);
     let e = types(words);
     let mut first = 0;
-    let mut x = 0;
-    while x < e {
+    for x in 0..e {
         let spot = breach_at(words, marks, flags, x, first);
-        let condition = spot.condition;
-        if let Condition::None = condition {
-            first += privileges_in(words, x, gap);
-            x += 1;
-        } else {
+        if spot.is_some() {
             return spot;
         }
+        first += privileges_in(words, x, gap);
     }
-    no_spot()
+    None
 }
 
 // What breaks the star x: its exchange, or else what is forbidden below its child.
@@ -300,8 +273,7 @@ fn star_breaker(words: &[u16], marks: &[u8], x: usize, n: Numbering) -> Breaker
     requires { Policy words.now marks.now × NumberedAs words.now x n × IsStar words.now x }
     ensures { BreakerAt words.now marks.now (star_spot x) result }
 {
-    let renewal = renewal_of(marks, n);
-    if let Renewal::Barred = renewal {
+    if let Renewal::Barred = renewal_of(marks, n) {
         return Breaker::Own(exchange(n));
     }
     Breaker::Below(child_at(words, x, 0))
@@ -313,8 +285,7 @@ fn breaker_at(words: &[u16], marks: &[u8], spot: Spot, n: Numbering) -> Breaker
     ensures { BreakerAt words.now marks.now spot result }
 {
     let x = spot.element;
-    let condition = spot.condition;
-    match condition {
+    match spot.condition {
         Condition::None => Breaker::Own(0),
         Condition::InsertDelete => star_breaker(words, marks, x, n),
         Condition::Chain => Breaker::Own(replacement(n, spot.i, spot.j)),
@@ -354,10 +325,8 @@ fn chain_at(words: &[u16], marks: &[u8], spot: Spot, n: Numbering) -> Chain
 {
     let x = spot.element;
     let i = spot.i;
-    let condition = spot.condition;
-    match condition {
-        Condition::None => no_chain(),
-        Condition::InsertDelete => no_chain(),
+    match spot.condition {
+        Condition::None | Condition::InsertDelete => no_chain(),
         Condition::Chain => chain_between(words, marks, x, n, i, spot.j),
         Condition::Cycle => chain_between(words, marks, x, n, i, i),
     }
@@ -369,10 +338,9 @@ fn breach_with(words: &[u16], marks: &[u8], spot: Spot, n: Numbering, told: Tall
     ensures { BreachWith words.now marks.now spot told result }
 {
     let steps = chain_at(words, marks, spot, n);
-    let condition = spot.condition;
     let positions = steps.at;
     Breach {
-        condition: condition,
+        condition: spot.condition,
         element: spot.element,
         i: spot.i,
         j: spot.j,
@@ -414,11 +382,9 @@ pub fn breach_by(words: &[u16], marks: &[u8], order: &[u8; 256], kept: &[u16]) -
 {
     let mut flags = [0u8; 256];
     flag_by(words, marks, order, kept, &mut flags);
-    let spot = first_spot(words, marks, &flags);
-    let condition = spot.condition;
-    if let Condition::None = condition {
+    let Some(spot) = first_spot(words, marks, &flags) else {
         return no_breach();
-    }
+    };
     breach_of(words, marks, kept, spot)
 }
 

@@ -21,10 +21,8 @@ pub(crate) fn flag_kept(words: &[u16], kept: &[u16], flags: &mut [u8; 256])
     ensures { Flags words.now (KeptBelow kept.now) flags.old flags.new }
 {
     let e = types(words);
-    let mut t = 0;
-    while t < e {
+    for t in 0..e {
         flags[t] = flag_of(kept[2 * t + 1]);
-        t += 1;
     }
 }
 

@@ -9,7 +9,7 @@ ghost use Rattle.verdict.specs.Steps.Spoils.{ForbiddenOwn, Range, Flag, Joined, 
 use policy::marks::none_above;
 use table::privilege::{gap_of, privileges_in};
 use table::rule::children;
-use table::words::{types, word_at};
+use table::words::types;
 
 // 1 if a privilege from one number up to another is forbidden, else 0.
 fn flag_from(marks: &[u8], from: usize, until: usize) -> u8
@@ -31,12 +31,10 @@ fn own_flags(words: &[u16], marks: &[u8], flags: &mut [u8; 256])
     let gap = gap_of(words);
     let e = types(words);
     let mut first = 0;
-    let mut x = 0;
-    while x < e {
+    for x in 0..e {
         let next = first + privileges_in(words, x, gap);
         flags[x] = flag_from(marks, first, next);
         first = next;
-        x += 1;
     }
 }
 
@@ -46,12 +44,10 @@ pub fn flag_over(kids: &[u16], flags: &[u8; 256], own: u8) -> u8
     ensures { Joined (length kids.now) kids.now flags.now own result }
 {
     let mut flag = own;
-    let mut i = 0;
-    while i < kids.len() {
-        if flags[word_at(kids, i)] == 1 {
+    for kid in kids {
+        if flags[usize::from(*kid)] == 1 {
             flag = 1;
         }
-        i += 1;
     }
     flag
 }
@@ -63,11 +59,9 @@ pub fn flag_spoilt(words: &[u16], marks: &[u8], order: &[u8; 256], flags: &mut [
 {
     let e = types(words);
     own_flags(words, marks, flags);
-    let mut k = 0;
-    while k < e {
-        let x = order[k] as usize;
+    for t in &order[..e] {
+        let x = usize::from(*t);
         let own = flags[x];
         flags[x] = flag_over(children(words, x), flags, own);
-        k += 1;
     }
 }

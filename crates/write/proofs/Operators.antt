@@ -1,9 +1,5 @@
 -- What the word of a name tells, and that of an operator. Assumes nothing.
-use Prim.Native.Nat.{ℕ, suc, ◌-◌, ◌≤◌, ◌<◌}
-use mathlib.Core.Path.{◌≡◌, refl}
-use mathlib.Core.Bool.{Bool, true, false, not}
-use native.Mathlib.Omega.{arith}
-use borrow.Author.Tests.{lt-ltb, le-ltb, ne_eqb}
+use Rattle.std.proofs.Common.{ℕ, suc, ◌-◌, ◌≤◌, ◌<◌, ◌≡◌, refl, Bool, true, false, not, arith, lt-ltb, le-ltb, ne_eqb}
 use Rattle.write.specs.Steps.Code.{word_of}
 use Rattle.write.specs.Steps.Reading.{operands_in, own_in, extra_in, star_in, rule_kind_in, own_due, extra_due}
 

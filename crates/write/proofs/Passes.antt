@@ -1,17 +1,11 @@
 -- The rows of a code written word by word. Assumes nothing.
-use Prim.Native.Nat.{ℕ, suc, ◌+◌, ◌*◌, ◌%◌, ◌≤◌, ◌<◌}
-use mathlib.Core.Path.{◌≡◌, refl, ap, ◌∙◌}
-use mathlib.Core.Bool.{Bool, true, false, cond}
-use mathlib.Core.List.{List, [], ◌∷◌}
-use native.Mathlib.Omega.{arith}
-use lib.Dec.{ltb}
-use lib.ListN.{length, get_or, drop, length-append, drop_of_length-le}
-use lib.Seq.{drop-cons, sets, length-sets}
+use Rattle.std.proofs.Common.{ℕ, suc, ◌+◌, ◌*◌, ◌%◌, ◌≤◌, ◌<◌, ◌≡◌, refl, ap, ◌∙◌, Bool, true, false, cond, List, [], ◌∷◌, arith, ltb, length, get_or, drop, length-append, drop-cons}
+use lib.Seq.{sets, length-sets}
 use Rattle.table.specs.Steps.Reading.{Within}
 use Rattle.write.specs.Steps.Reading.{Row, operands_in, extra_in, star_in, rule_kind_in, need_after, inner_of, free_after, children_in, last_of, row_of}
 use Rattle.write.specs.Steps.Reading.{own_row, extra_row, own_due, extra_due, due_of, rows_at, rows_in, Numbered}
-use Rattle.write.specs.Steps.Writing.{kids_of_rows, write_row, write_rows, Wrote, Low, Formed}
-use Rattle.write.proofs.Puts.{children_length, last_length, kids_sum, wrote_none, wrote_then}
+use Rattle.write.specs.Steps.Writing.{kids_of_rows, write_row, write_rows, Wrote, Low}
+use Rattle.write.proofs.Puts.{children_length, last_length, kids_sum, wrote_then}
 
 -- writing keeps the size
 pub written_length : (base t k : ℕ) (rs : List Row) (out : List ℕ) → length (write_rows base t k rs out) ≡ length out
@@ -46,18 +40,6 @@ due_low due kind n e y ws few-extra few w low =
       types_low = omega (arith, low.types_low, w.types, due_few due r);
       kids_low = omega (arith, low.kids_low, w.kids, due_kids due r, kids_length kind n e y ws few-extra);
     }
-
--- the rows due at a word
-pub word_wrote : (later : Bool) (need x w : ℕ) (ws : List ℕ) {due due' : Bool} {y e k₁ n₁ e₁ k₂ n₂ e₂ : ℕ} → due ≡ own_due later need w
-    → due' ≡ extra_due later w → Within (x + 2) (inner_of need x w) y → Within 2 (extra_in w) e
-    → Formed (rule_kind_in w) (operands_in w) (extra_in w) k₁ n₁ e₁ → Formed (4 * star_in w) (star_in w) 0 k₂ n₂ e₂
-    → {base t k t' k' t'' k'' : ℕ} {out out' out'' : List ℕ} → Wrote base (due_of due (row_of k₁ n₁ e₁ (y + e) ws)) t k out t' k' out'
-    → Wrote base (due_of due' (row_of k₂ n₂ e₂ (y + 1) ws)) t' k' out' t'' k'' out'' → Wrote base (rows_at later need x w ws) t k out t'' k'' out''
-word_wrote later need x w ws due-is due'-is y_is e-is f g a b =
-    let a' = rw (due-is, y_is.is, e-is.is, f.kind_is, f.operands_are, f.extra_is) at a in
-    let b' = rw (due'-is, y_is.is, g.kind_is, g.operands_are, g.extra_is) at b in
-    let y = inner_of need x w in
-    wrote_then (due_of (own_due later need w) (own_row y w ws)) (due_of (extra_due later w) (extra_row y w ws)) a' b'
 
 cond_low : (b : Bool) {x y limit : ℕ} → x < limit → y < limit → cond b x y < limit
 cond_low true l m = l
@@ -131,17 +113,6 @@ pub record Passing (code : List ℕ) (later : Bool) (x base : ℕ) (out₀ : Lis
   pub goes : (t'' k'' : ℕ) (out'' : List ℕ) → Wrote base (rows_in later need free (drop c code)) t k out t'' k'' out''
       → Wrote base (rows_in later 0 x code) t₀ k₀ out₀ t'' k'' out''
 
-pub passing_start : {code : List ℕ} {later : Bool} {x base : ℕ} {out : List ℕ} {t k : ℕ} → length code ≤ 1280 → x ≤ 256 → length out ≡ 1800
-    → Passing code later x base out t k out t k x 0 0
-passing_start short low size = record {
-  there = record { short = short; within = omega arith; low = omega arith };
-  size = size;
-  few = omega arith;
-  types_few = omega arith;
-  kids_few = omega arith;
-  goes = λ t'' k'' out'' w. w;
-}
-
 pub passing_more : {code : List ℕ} {later : Bool} {x base : ℕ} {out₀ : List ℕ} {t₀ k₀ : ℕ} {out : List ℕ} {t k free need c w t' k' free' need' : ℕ}
     {out' : List ℕ} → Passing code later x base out₀ t₀ k₀ out t k free need c → c < length code → Within 4294967296 (get_or code c 0) w
     → Wrote base (rows_at later need free (get_or code c 0) (drop (c + 1) code)) t k out t' k' out'
@@ -162,9 +133,3 @@ passing_more {code} {later} {x} {base} {free = free} {need = need} {c = c} p l w
       goes = λ t'' k'' out'' h. goes t'' k'' out'' (wrote_then (rows_at later need free head tail)
           (rows_in later (need_after need head) (free_after need free head) tail) wrote (rw (f.is, n.is, word.is) at h));
     }
-
-pub passing_end : {code : List ℕ} {later : Bool} {x base : ℕ} {out₀ : List ℕ} {t₀ k₀ : ℕ} {out : List ℕ} {t k free need c : ℕ}
-    → Passing code later x base out₀ t₀ k₀ out t k free need c → length code ≤ c → Wrote base (rows_in later 0 x code) t₀ k₀ out₀ t k out
-passing_end {code} {out = out} {t = t} {k = k} {c = c} p past =
-    let gone : drop c code ≡ [] = drop_of_length-le code {i = c} past in
-    (rw gone at p.goes) t k out wrote_none

@@ -1,24 +1,11 @@
 -- Writing words one after another: records, children, and rows. Assumes nothing.
-use Prim.Native.Nat.{ℕ, zero, suc, ◌+◌, ◌-◌, ◌*◌, ◌%◌, ◌≤◌, ◌<◌}
-use mathlib.Core.Path.{◌≡◌, refl, ap, ◌∙◌}
-use mathlib.Core.List.{List, [], ◌∷◌, ◌++◌, append_assoc, append-nil}
-use native.Mathlib.Omega.{arith}
-use lib.ListN.{length, set, drop, length-append}
+use Rattle.std.proofs.Common.{ℕ, zero, suc, ◌+◌, ◌-◌, ◌*◌, ◌%◌, ◌≤◌, ◌<◌, ◌≡◌, refl, ap, ◌∙◌, List, [], ◌∷◌, ◌++◌, append_assoc, append-nil, arith, length, set, drop, length-append}
 use lib.Seq.{sets, length-sets}
 use Rattle.write.specs.Steps.Reading.{Row, child_in, children_in, last_of, row_of, rest_of, free_of, Numbered, Skipped}
 use Rattle.write.specs.Steps.Writing.{Puts, kids_of_rows, write_row, write_rows, Wrote}
 
 pub puts_sized : {out out' : List ℕ} {i : ℕ} {ws : List ℕ} → Puts out i ws out' → length out ≡ 1800 → length out' ≡ 1800
 puts_sized {out} {out'} {i} {ws} p h = ap (λ (l : List ℕ). length l) p.is ∙ length-sets out i ws ∙ h
-
-pub record_put : {out a b c : List ℕ} {i x y z : ℕ} → Puts out i (x ∷ []) a → Puts a (i + 1) (y ∷ []) b → Puts b (i + 2) (z ∷ []) c
-    → Puts out i (x ∷ y ∷ z ∷ []) c
-record_put {out} {a} {b} {c} {i} {x} {y} {z} p q r =
-    let one : i + 1 ≡ suc i = omega arith in
-    let two : i + 2 ≡ suc (suc i) = omega arith in
-    let q' : b ≡ set a (suc i) y = rw one at q.is in
-    let r' : c ≡ set b (suc (suc i)) z = rw two at r.is in
-    record { is = r' ∙ rw (q', p.is) }
 
 sets_join : (out : List ℕ) (i j : ℕ) (xs ys : List ℕ) → j ≡ i + length xs → sets (sets out i xs) j ys ≡ sets out i (xs ++ ys)
 sets_join out i j [] ys e = let q : j ≡ i = omega arith in rw q
@@ -40,13 +27,6 @@ pub record Putting (code : List ℕ) (n start : ℕ) (out₀ : List ℕ) (c x : 
   pub within : i ≤ n
   pub is : sets out (start + i) (children_in (n - i) free (drop at code)) ≡ sets out₀ start (children_in n x (drop c code))
 
-pub putting_start : {code : List ℕ} {n start : ℕ} {out : List ℕ} {c x : ℕ} → Numbered code c x → length out ≡ 1800
-    → Putting code n start out c x out c x 0
-putting_start {n = n} {start = start} h l =
-    let none : start + 0 ≡ start = omega arith in
-    let all : n - 0 ≡ n = omega arith in
-    record { there = h; size = l; within = omega arith; is = rw (none, all) }
-
 pub putting_more : {code : List ℕ} {n start : ℕ} {out₀ : List ℕ} {c x : ℕ} {out : List ℕ} {at free i : ℕ}
     → Putting code n start out₀ c x out at free i → i < n → (child : ℕ) (out' : List ℕ) (at' free' : ℕ) → child ≡ child_in free (drop at code)
     → Puts out (start + i) (child ∷ []) out' → Skipped code at free at' free' → Putting code n start out₀ c x out' at' free' (i + 1)
@@ -60,14 +40,7 @@ putting_more {n = n} {start = start} {i = i} h l child out' at' free' e f s =
       is = rw (next, s.rest, s.free, f.is, e) (rw left at h.is);
     }
 
-pub putting_end : {code : List ℕ} {n start : ℕ} {out₀ : List ℕ} {c x : ℕ} {out : List ℕ} {at free i : ℕ}
-    → Putting code n start out₀ c x out at free i → n ≤ i → Puts out₀ start (children_in n x (drop c code)) out
-putting_end {n = n} {i = i} h l = let none : n - i ≡ 0 = omega arith in record { is = rw none at h.is }
-
 -- rows one after another
-pub wrote_none : {base t k : ℕ} {out : List ℕ} → Wrote base [] t k out t k out
-wrote_none = record { is = refl; types = omega arith; kids = omega arith }
-
 writing_joins : (base t k t' k' : ℕ) (rs ss : List Row) (out : List ℕ) → t' ≡ t + length rs → k' ≡ k + length (kids_of_rows rs)
     → write_rows base t' k' ss (write_rows base t k rs out) ≡ write_rows base t k (rs ++ ss) out
 writing_joins base t k t' k' [] ss out e f = let p : t' ≡ t = omega arith in let q : k' ≡ k = omega arith in rw (p, q)

@@ -1,10 +1,7 @@
 -- The code of a list of declarations says the rules of their table. Assumes nothing.
-use Prim.Native.Nat.{ℕ, suc, ◌+◌, ◌≤◌, ◌<◌}
-use mathlib.Core.Path.{◌≡◌, refl}
-use mathlib.Core.Bool.{Bool, true, false, not, cond}
-use mathlib.Core.List.{List, [], ◌∷◌, ◌++◌, map, map-append}
-use native.Mathlib.Omega.{arith}
-use lib.ListN.{length, length-append, length-map}
+use Rattle.std.proofs.Common.{ℕ, suc, ◌+◌, ◌≤◌, ◌<◌, ◌≡◌, refl, Bool, true, false, not, cond, List, [], ◌∷◌, ◌++◌, map, arith, length, length-append}
+use mathlib.Core.List.{map-append}
+use lib.ListN.{length-map}
 use Rattle.grammar.specs.Tree.{Content, is-empty, is_text, is_any, is_mixed, is_children, Declaration}
 use Rattle.model.specs.Model.{Model, Models, element, made, single, model_of}
 use Rattle.model.specs.Tables.{Rule, empty, text, sequence, sizes_of, made_by_each, rule_of_model, made_in_model, rule_of_content, made_in_content}

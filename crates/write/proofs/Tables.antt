@@ -1,11 +1,6 @@
 -- Rows that are written one after another stand as the records and the child list of a table. Assumes nothing.
-use Prim.Native.Nat.{ℕ, suc, ◌+◌, ◌*◌, ◌%◌, ◌≤◌, ◌<◌}
-use mathlib.Core.Path.{◌≡◌, refl, ◌∙◌}
-use mathlib.Core.Bool.{true, false}
-use mathlib.Core.List.{List, [], ◌∷◌, ◌++◌, map, append_assoc, append-nil}
-use native.Mathlib.Omega.{arith}
-use lib.ListN.{length, set, take, drop, length-append, length-drop}
-use lib.Seq.{sets, sets-eq, length-sets, take-set-le, drop-set-lt, drop-set-add, take_at, take-add, length-take-le}
+use Rattle.std.proofs.Common.{ℕ, suc, ◌+◌, ◌*◌, ◌%◌, ◌≤◌, ◌<◌, ◌≡◌, refl, ◌∙◌, true, false, List, [], ◌∷◌, ◌++◌, map, append_assoc, append-nil, arith, length, set, take, drop, length-append, length-drop, drop-set-lt, take_at, take-add, length-take-le}
+use lib.Seq.{sets, sets-eq, length-sets, take-set-le, drop-set-add}
 use Rattle.grammar.specs.Tree.{Declaration}
 use Rattle.model.specs.Tables.{Rule, kind_of, kids_of, kids_of_all, records_from, rules_of, words_of, table_of}
 use Rattle.model.proofs.Shape.{table_length}

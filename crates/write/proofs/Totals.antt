@@ -1,12 +1,6 @@
 -- What the words make is what the declarations make. Assumes nothing.
-use Prim.Native.Nat.{ℕ, ◌+◌, ◌*◌, ◌%◌, ◌≤◌}
-use mathlib.Core.Path.{◌≡◌, refl, ap, ◌∙◌}
-use mathlib.Core.Bool.{Bool, true, false, not, cond}
-use mathlib.Core.List.{List, [], ◌∷◌, ◌++◌, map}
-use native.Mathlib.Omega.{arith}
-use borrow.Author.Tests.{ltb-true, lt-ltb}
-use lib.Dec.{ltb, eqb}
-use lib.ListN.{length, drop, length-append, length-map, drop_of_length-le}
+use Rattle.std.proofs.Common.{ℕ, ◌+◌, ◌*◌, ◌%◌, ◌≤◌, ◌≡◌, refl, ap, ◌∙◌, Bool, true, false, not, cond, List, [], ◌∷◌, ◌++◌, map, arith, ltb-true, lt-ltb, ltb, eqb, length, drop, length-append, drop_of_length-le}
+use lib.ListN.{length-map}
 use Rattle.grammar.specs.Tree.{Declaration}
 use Rattle.model.specs.Tables.{Rule, kids_of, kids_of_all, rules_of}
 use Rattle.write.specs.Steps.Code.{Coded, Counted}

@@ -20,23 +20,18 @@ pub struct Counts {
 pub fn count(code: &[u32]) -> Counts
     ensures { (ds : List Declaration) → Coded ds code.now → Counted ds result.types result.kids }
 {
-    if 1280 < code.len() {
+    if code.len() > 1280 {
         return Counts { types: 0, kids: 0 };
     }
     let mut types = 0;
     let mut kids = 0;
-    let mut c = 0;
-    while c < code.len() {
-        let w = read::word_at(code, c);
+    for word in code {
+        let w = read::wide(*word);
         let extra = read::extra(w);
         types += read::own(w) + extra;
         kids += read::operands(w) + extra + read::star(w);
-        c += 1;
     }
-    Counts {
-        types: types,
-        kids: kids,
-    }
+    Counts { types, kids }
 }
 
 // Writes the words before the records, word 7 as 0.
@@ -60,16 +55,7 @@ pub fn write_rules(code: &[u32], declared: usize, counts: Counts, out: &mut [u16
     requires { length out.old ≡ 1800 }
     ensures { Written code.now out.new declared counts.types counts.kids }
 {
-    if 1280 < code.len() {
-        return;
-    }
-    if 256 < declared {
-        return;
-    }
-    if 256 < counts.types {
-        return;
-    }
-    if 1024 < counts.kids {
+    if code.len() > 1280 || declared > 256 || counts.types > 256 || counts.kids > 1024 {
         return;
     }
     write_header(counts, out);

@@ -5,7 +5,8 @@ ghost use Rattle.table.specs.Steps.Reading.{Within};
 ghost use Rattle.write.specs.Steps.Reading.{operands_in, own_in, extra_in, star_in, rule_kind_in, need_after, free_after, inner_of};
 ghost use Rattle.write.specs.Steps.Reading.{child_in, Numbered, Skipped};
 
-fn wide(x: u32) -> usize
+// A word, widened.
+pub fn wide(x: u32) -> usize
     ensures { Within 4294967296 x result }
 {
     x as usize
@@ -19,6 +20,7 @@ pub fn word_at(code: &[u32], c: usize) -> usize
 }
 
 // How many operands follow a word.
+#[tactic(auto, unfolding(crate::specs::Steps::Reading::operands_in))]
 pub fn operands(w: usize) -> usize
     ensures { Within 65536 (operands_in w) result }
 {
@@ -26,6 +28,7 @@ pub fn operands(w: usize) -> usize
 }
 
 // How many types are its own.
+#[tactic(auto, unfolding(crate::specs::Steps::Reading::own_in))]
 pub fn own(w: usize) -> usize
     ensures { Within 2 (own_in w) result }
 {
@@ -33,6 +36,7 @@ pub fn own(w: usize) -> usize
 }
 
 // How many types it makes inside.
+#[tactic(auto, unfolding(crate::specs::Steps::Reading::extra_in))]
 pub fn extra(w: usize) -> usize
     ensures { Within 2 (extra_in w) result }
 {
@@ -40,6 +44,7 @@ pub fn extra(w: usize) -> usize
 }
 
 // How many children the type that it makes inside has.
+#[tactic(auto, unfolding(crate::specs::Steps::Reading::star_in))]
 pub fn star(w: usize) -> usize
     ensures { Within 2 (star_in w) result }
 {
@@ -47,6 +52,7 @@ pub fn star(w: usize) -> usize
 }
 
 // The kind of its own type's rule.
+#[tactic(auto, unfolding(crate::specs::Steps::Reading::rule_kind_in))]
 pub fn rule_kind(w: usize) -> usize
     ensures { Within 5 (rule_kind_in w) result }
 {
@@ -109,16 +115,17 @@ pub fn skip(code: &[u32], place: Place) -> Place
     ensures { Skipped code.now place.at place.free result.at result.free }
 {
     let mut need = 1;
-    let mut at = place.at;
     let mut free = place.free;
-    while at < code.len() {
+    for at in place.at..code.len() {
         if need == 0 {
-            return Place { at: at, free: free };
+            return Place { at, free };
         }
-        let w = word_at(code, at);
+        let w = wide(code[at]);
         free = free_after(need, free, w);
         need = need_after(need, w);
-        at += 1;
     }
-    Place { at: at, free: free }
+    Place {
+        at: code.len(),
+        free,
+    }
 }

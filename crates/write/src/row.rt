@@ -6,7 +6,8 @@ ghost use Rattle.write.specs.Steps.Writing.{Puts, Wrote, Low, Small, Formed};
 
 use super::Counts;
 use super::read::{
-    Place, child, extra, free_after, inner, need_after, operands, rule_kind, skip, star, word_at,
+    Place, child, extra, free_after, inner, need_after, operands, rule_kind, skip, star, wide,
+    word_at,
 };
 
 // Puts a word at a place, if there is one.
@@ -14,10 +15,9 @@ fn put(out: &mut [u16; 1800], i: usize, word: usize)
     requires { (length out.old ≡ 1800) × (word < 65536) }
     ensures { Puts out.old i (word ∷ []) out.new }
 {
-    if 1800 <= i {
-        return;
+    if i < out.len() {
+        out[i] = word as u16;
     }
-    out[i] = word as u16;
 }
 
 // Puts the record of type t.
@@ -37,11 +37,9 @@ fn put_children(code: &[u32], from: Place, n: usize, start: usize, out: &mut [u1
     ensures { Puts out.old start (children_in n from.free (drop from.at code.now)) out.new }
 {
     let mut place = from;
-    let mut i = 0;
-    while i < n {
+    for i in 0..n {
         put(out, start + i, child(code, place));
         place = skip(code, place);
-        i += 1;
     }
 }
 
@@ -50,10 +48,9 @@ fn put_last(out: &mut [u16; 1800], i: usize, y: usize, extra: usize)
     requires { (length out.old ≡ 1800) × (extra ≤ y) × (y < 65536) }
     ensures { Puts out.old i (last_of extra y) out.new }
 {
-    if extra == 0 {
-        return;
+    if extra != 0 {
+        put(out, i, y - 1);
     }
-    put(out, i, y - 1);
 }
 
 // What a row is made of: its kind, how many operands its children are, and how many types are made inside.
@@ -116,26 +113,19 @@ fn write_row(
 }
 
 // Is a word's own row due?
+#[tactic(auto, unfolding(crate::specs::Steps::Reading::own_due))]
 fn own_due(later: bool, need: usize, w: usize) -> bool
     ensures { result ≡ own_due later need w }
 {
-    if w < 65536 {
-        return false;
-    }
-    if later {
-        return need != 0;
-    }
-    need == 0
+    w >= 65536 && later == (need != 0)
 }
 
 // Is that of the type that it makes inside?
+#[tactic(auto, unfolding(crate::specs::Steps::Reading::extra_due))]
 fn extra_due(later: bool, w: usize) -> bool
     ensures { result ≡ extra_due later w }
 {
-    if later {
-        return 393216 <= w;
-    }
-    false
+    later && w >= 393216
 }
 
 // Writes the rows that are due at the word at c, x being the first number that is free.
@@ -199,13 +189,11 @@ pub fn write_pass(
     let mut at = start;
     let mut free = x;
     let mut need = 0;
-    let mut c = 0;
-    while c < code.len() {
-        let w = word_at(code, c);
+    for (c, word) in code.iter().enumerate() {
+        let w = wide(*word);
         at = write_word(code, c, later, need, free, base, at, out);
         free = free_after(need, free, w);
         need = need_after(need, w);
-        c += 1;
     }
     at
 }

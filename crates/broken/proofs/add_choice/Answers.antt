@@ -1,5 +1,5 @@
 -- The rows are read, and closed. Assumes nothing.
-use mathlib.Core.Path.{refl}
+use Rattle.std.proofs.Common.{refl}
 use Rattle.policy.proofs.SquareLaws.{policy_readable}
 use Rattle.broken.proofs.add_choice.Goals as goal
 

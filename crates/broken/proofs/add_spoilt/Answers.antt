@@ -1,5 +1,5 @@
 -- Where the flag is not up nothing below is forbidden, so nothing is broken there. Assumes nothing.
-use native.Mathlib.Omega.{arith}
+use Rattle.std.proofs.Common.{arith}
 use Rattle.table.proofs.Facts.{facts}
 use Rattle.broken.proofs.Asking.{unflagged_none}
 use Rattle.broken.proofs.add_spoilt.Goals as goal

@@ -3,8 +3,5 @@ use Rattle.verdict.proofs.Spoils.{flags_agree}
 use Rattle.broken.proofs.Asking.{broken_in}
 use Rattle.broken.proofs.broken_in.Goals as goal
 
-pub broken_by-requires : goal.broken_by-requires
-broken_by-requires c = (c.requires.0, flags_agree c.flag_spoilt.ensures)
-
 pub returns : goal.returns
 returns c = broken_in c.requires.0.accepted (flags_agree c.flag_spoilt.ensures) c.broken_by.ensures

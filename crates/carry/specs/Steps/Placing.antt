@@ -1,12 +1,10 @@
 -- The replacements at a type, by the kinds they name: those of a choice, and the exchange of a star, which replaces its child by its child. And where the kinds
 -- of an old type stand among those of a new one. Assumes nothing.
-use Rattle.std.specs.Prelude.{ℕ, ◌+◌, ◌-◌, ◌*◌, ◌≤◌, ◌<◌, ◌≡◌, ◌≢◌, cond, List, ltb, length, get_or}
+use Rattle.std.specs.Prelude.{ℕ, ◌+◌, ◌-◌, ◌*◌, ◌≤◌, ◌<◌, ◌≡◌, ◌≢◌, cond, List, Option, Some, None, ltb, length, get_or}
 use Rattle.table.specs.Rule.{IsChoice, IsStar}
 use Rattle.table.specs.Privilege.{gap_of, exchange_of}
 use Rattle.table.specs.Steps.Numbering.{NumberedAs, Small, replace_in, row_in, missing_in, ReplaceableIn}
 use Rattle.table.specs.declared.privilege.Numbering.{Numbering}
-use Rattle.table.specs.declared.Found.{Found}
-use Rattle.table.specs.declared.Found.TheVariants.{At, Nothing}
 use Rattle.carry.specs.Numbers.{new_number}
 use Rattle.carry.specs.declared.replaced.Row.{Row}
 
@@ -34,9 +32,9 @@ pub record StandsAt (row : Row) (j p : ℕ) : Type 0 where
   pub other : j ≢ row.gap
   pub is : p ≡ row.first + cond (ltb j row.gap) j (j - 1)
 
-abbrev pub ReplacedBy : Row → ℕ → Found → Type 0
-ReplacedBy row j (At p) = StandsAt row j p
-ReplacedBy row j Nothing = (p : ℕ) → ¬ StandsAt row j p
+abbrev pub ReplacedBy : Row → ℕ → Option ℕ → Type 0
+ReplacedBy row j (Some p) = StandsAt row j p
+ReplacedBy row j None = (p : ℕ) → ¬ StandsAt row j p
 
 -- there is room for a row's replacements
 pub record RowRoom (row : Row) (marks : List ℕ) : Type 0 where

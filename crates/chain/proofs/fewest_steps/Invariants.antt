@@ -1,5 +1,5 @@
 -- The loop has the words of fewer steps. Assumes nothing.
-use Prim.Native.Nat.{◌-◌}
+use Rattle.std.proofs.Common.{◌-◌}
 use Rattle.policy.specs.Steps.Squares.{Marked}
 use Rattle.chain.proofs.Ways.{Grown}
 use Rattle.chain.proofs.fewest_steps.Given as goal

@@ -1,30 +1,20 @@
-use mathlib.Core.Path.{refl}
+-- The refusals, and else the answer for the table. Assumes nothing.
+use Rattle.std.proofs.Common.{refl, arith}
 use Rattle.dtd.specs.Answer.{refused}
 use Rattle.dtd.specs.Steps.Stages.{declarations}
-use native.Mathlib.Omega.{arith}
 use Rattle.dtd.proofs.Passing.{too_many_types, too_many_kids, wrong_name, writable, last_answer, first_is}
 use Rattle.dtd.proofs.read_code.Goals as goal
 
--- src/lib.rt:56:9
 pub returns-then-counts-gt256 : goal.returns-then-counts-gt256
 returns-then-counts-gt256 c = let a = c.requires.1 in
     let n = c.count-counts.ensures in
     refused (too_many_types a (n (declarations a.collected.read) a.coded) (omega arith)) refl
 
--- src/lib.rt:62:9
 pub returns-then-counts-gt1024 : goal.returns-then-counts-gt1024
 returns-then-counts-gt1024 c = let a = c.requires.1 in
     let n = c.count-counts.ensures in
     refused (too_many_kids a (n (declarations a.collected.read) a.coded) (omega arith)) refl
 
--- src/lib.rt:72:27
-pub read_table-requires : goal.read_table-requires
-read_table-requires c = let p = c.requires in
-    let a = p.1 in
-    let n = c.count-counts.ensures in
-    (p.0, (declarations a.collected.read, writable a (n (declarations a.collected.read) a.coded) (omega arith) (omega arith)))
-
--- src/lib.rt:43:1
 pub returns-in-At : goal.returns-in-At
 returns-in-At c = let a = c.requires.1 in
     let n = c.count-counts.ensures in
@@ -32,7 +22,6 @@ returns-in-At c = let a = c.requires.1 in
     let f = c.first_misnamed.ensures in
     refused (wrong_name a (n ds a.coded) (omega arith) (omega arith) (first_is ds c.in-At.is (f.of ds a.collected.read.text.items a.collected.known.all a.collected.known.few a.collected.known.listed))) refl
 
--- src/lib.rt:43:1
 pub returns-in-Nothing : goal.returns-in-Nothing
 returns-in-Nothing c = let a = c.requires.1 in
     let ds = declarations a.collected.read in

@@ -1,14 +1,12 @@
-use native.Mathlib.Omega.{arith}
-use mathlib.Core.Path.{refl}
+-- The names are too many, or are collected. Assumes nothing.
+use Rattle.std.proofs.Common.{arith, refl}
 use Rattle.dtd.specs.Answer.{refused}
 use Rattle.dtd.proofs.Passing.{collected, many_declared}
 use Rattle.dtd.proofs.read_text.Goals as goal
 
--- src/lib.rt:106:9
 pub returns-then-declared-gt256 : goal.returns-then-declared-gt256
 returns-then-declared-gt256 c = refused (many_declared c.requires.1 c.collect-declared.ensures (omega arith)) refl
 
--- src/lib.rt:111:5
 pub read_named-requires : goal.read_named-requires
 read_named-requires c = let a = c.requires in
     (a.0, collected a.1 c.collect-declared.ensures (omega arith))

@@ -1,13 +1,12 @@
 -- What is answered once the names are right: the table's own numbers, 12, or the table. Assumes nothing.
-use Rattle.std.specs.Prelude.{ℕ, ◌≤◌, ◌<◌, ◌≡◌, List, ◌++◌, length, drop}
+use Rattle.std.specs.Prelude.{ℕ, ◌≤◌, ◌<◌, ◌≡◌, List, ◌++◌, length, drop, Result, Ok, Err}
 use Rattle.table.specs.declared.check.Check.{Check}
 use Rattle.table.specs.Check.{Refused, Accepted, number_of}
 use Rattle.table.specs.Words.{types, count_at}
 use Rattle.table.specs.Privilege.{privileges}
 use Rattle.grammar.specs.Tree.{Declaration}
 use Rattle.model.specs.Tables.{rules_of, kids_of_all}
-use Rattle.dtd.specs.declared.finish.Total.{Total}
-use Rattle.dtd.specs.declared.finish.Total.TheVariants.{Wide, Sum}
+use Rattle.dtd.specs.declared.finish.TooWide.{TooWide}
 
 pub data Last (ws out : List ℕ) (number place : ℕ) (after : List ℕ) : Type 0 where
   last_refused : (check : Check) → number ≡ number_of check → Refused ws check place → after ≡ out → Last ws out number place after
@@ -25,6 +24,6 @@ abbrev pub Few : List ℕ → ℕ → Type 0
 Few ws t = (j : ℕ) → j < t → count_at ws j ≤ 16
 
 -- V, if no type has over 16 children; else the lowest that has
-abbrev pub TotalRead : List ℕ → Total → Type 0
-TotalRead ws (Wide t) = (t < types ws) × (16 < count_at ws t) × Few ws t
-TotalRead ws (Sum v) = (v ≡ privileges ws) × Few ws (types ws)
+abbrev pub TotalRead : List ℕ → Result ℕ TooWide → Type 0
+TotalRead ws (Ok v) = (v ≡ privileges ws) × Few ws (types ws)
+TotalRead ws (Err wide) = (wide.element < types ws) × (16 < count_at ws wide.element) × Few ws wide.element

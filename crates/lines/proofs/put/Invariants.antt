@@ -1,12 +1,7 @@
 -- The loop has put the bytes passed. Assumes nothing.
 use Rattle.lines.specs.Text.{raised}
 use Rattle.runs.proofs.Texts.{Filled}
-use Prim.Native.Nat.{◌-◌}
-use lib.ListN.{length}
 use Rattle.lines.proofs.put.Given as goal
 
 abbrev pub invariant-loop-k : goal.invariant-loop-k
 invariant-loop-k l = Filled l.initial.out l.at (raised l.by l.bytes) l.k l.out
-
-abbrev pub decreases-loop-k : goal.decreases-loop-k
-decreases-loop-k l = length l.bytes - l.k

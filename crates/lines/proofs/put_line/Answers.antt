@@ -1,31 +1,18 @@
 -- The four parts stand one behind another. Assumes nothing.
-use mathlib.Core.List.{◌++◌}
-use native.Mathlib.Omega.{arith}
-use lib.ListN.{length-append}
+use Rattle.std.proofs.Common.{◌++◌, arith, length-append}
 use Rattle.lines.specs.Text.{numbers, marks_text}
 use Rattle.runs.proofs.Texts.{puts_then, puts_as}
 use Rattle.lines.proofs.Decimals.{raised_none}
 use Rattle.lines.proofs.Spaced.{one_raisable, numbers_length, marks_length}
 use Rattle.lines.proofs.put_line.Goals as goal
 
-pub put-first-requires : goal.put-first-requires
-put-first-requires c = (omega (arith, c.requires.0), λ k h. omega (arith, c.type_inv.word k))
-
-pub put_numbers-second-requires : goal.put_numbers-second-requires
-put_numbers-second-requires c = omega (arith, c.requires.0, (puts_as (raised_none c.args.word.now) c.put-first.ensures).end)
-
 pub put_marks-third-requires : goal.put_marks-third-requires
 put_marks-third-requires c = let first = puts_as (raised_none c.args.word.now) c.put-first.ensures in
-    let second = c.put_numbers-second.ensures in
-    (omega (arith, c.requires.0, first.end, second.end, numbers_length c.args.ns.now), c.requires.1)
+    (omega (arith, first.end, numbers_length c.args.ns.now), c.requires.1)
 
 pub put-requires : goal.put-requires
 put-requires c = let first = puts_as (raised_none c.args.word.now) c.put-first.ensures in
-    let second = c.put_numbers-second.ensures in
-    let third = c.put_marks-third.ensures in
-    let ns = c.args.ns.now in
-    let marks = c.args.marks.now in
-    (omega (arith, c.requires.0, first.end, second.end, third.end, numbers_length ns, marks_length marks), one_raisable 10 0 (omega arith))
+    (omega (arith, first.end, numbers_length c.args.ns.now, marks_length c.args.marks.now), one_raisable 10 0 (omega arith))
 
 pub returns : goal.returns
 returns c = let word = c.args.word.now in

@@ -1,6 +1,5 @@
 -- The lines of the types passed are put, and `first` is the first privilege of the next. Assumes nothing.
-use Prim.Native.Nat.{◌-◌, ◌≤◌}
-use mathlib.Core.Path.{◌≡◌}
+use Rattle.std.proofs.Common.{◌≤◌, ◌≡◌}
 use Rattle.table.specs.Words.{types}
 use Rattle.table.specs.Privilege.{first_privilege}
 use Rattle.labels.specs.Steps.Booked.{label_in}
@@ -9,6 +8,3 @@ use Rattle.mailing.proofs.put_lines.Given as goal
 
 abbrev pub invariant-loop-x : goal.invariant-loop-x
 invariant-loop-x l = (l.x ≤ types l.words) × (l.first ≡ first_privilege l.words l.x) × Continues (label_in l.names l.starts) l.words l.marks 0 l.first l.initial.out 0 l.out l.end
-
-abbrev pub decreases-loop-x : goal.decreases-loop-x
-decreases-loop-x l = types l.words - l.x

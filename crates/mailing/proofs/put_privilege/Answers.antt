@@ -1,11 +1,8 @@
 -- An unset privilege has no line; a set one has that of its edit. Assumes nothing.
-use Prim.Native.Nat.{ℕ}
-use mathlib.Core.List.{List}
-use native.Mathlib.Omega.{arith}
+use Rattle.std.proofs.Common.{ℕ, List, arith, get_or}
 use Rattle.table.proofs.Facts.{facts}
 use Rattle.table.proofs.Privileges.{belongs_below}
 use Rattle.labels.specs.Steps.Booked.{label_in}
-use lib.ListN.{get_or}
 use Rattle.listing.proofs.Appending.{line_length}
 use Rattle.mailing.proofs.Naming.{names_inside}
 use Rattle.mailing.proofs.Wording.{all_brief}

@@ -1,11 +1,8 @@
 -- The lines of the privileges passed are put. Assumes nothing.
-use Prim.Native.Nat.{◌-◌, ◌≤◌}
+use Rattle.std.proofs.Common.{◌≤◌}
 use Rattle.labels.specs.Steps.Booked.{label_in}
 use Rattle.mailing.specs.Steps.Continuing.{Continues}
 use Rattle.mailing.proofs.put_type.Given as goal
 
 abbrev pub invariant-loop-p : goal.invariant-loop-p
 invariant-loop-p l = (l.first ≤ l.p) × (l.p ≤ l.until) × Continues (label_in l.names l.starts) l.words l.marks l.first l.p l.initial.out l.at l.out l.end
-
-abbrev pub decreases-loop-p : goal.decreases-loop-p
-decreases-loop-p l = l.until - l.p

@@ -1,18 +1,15 @@
 -- What each part of the mend finds and takes. Assumes nothing.
-use Rattle.std.specs.Prelude.{ℕ, ◌+◌, ◌≤◌, ◌<◌, ◌≡◌, ◌⊎◌, true, List, set}
+use Rattle.std.specs.Prelude.{ℕ, ◌+◌, ◌≤◌, ◌<◌, ◌≡◌, ◌⊎◌, true, List, set, Option, Some, None}
 use Rattle.table.specs.Words.{types}
 use Rattle.table.specs.Rule.{children_at}
 use Rattle.table.specs.Steps.Numbering.{NumberedAs, replace_in}
 use Rattle.table.specs.declared.privilege.Numbering.{Numbering}
-use Rattle.table.specs.declared.Found.{Found}
-use Rattle.table.specs.declared.Found.TheVariants.{At, Nothing}
 use Rattle.policy.specs.Marks.{Policy}
 use Rattle.policy.specs.Steps.Squares.{marked, StepIn}
 use Rattle.verdict.specs.Below.{ForbiddenBelow}
 use Rattle.verdict.specs.Breaches.{IsBreach, FirstSpot}
 use Rattle.verdict.specs.Steps.Spoils.{Flagged, Agree}
 use Rattle.verdict.specs.declared.Spot.{Spot}
-use Rattle.verdict.specs.declared.breaches.Pair.{Pair}
 use Rattle.mending.specs.Mends.{Takes}
 
 -- the flags tell below which types something is forbidden
@@ -62,11 +59,11 @@ pub record TakenAt (ws m : List ℕ) (x p : ℕ) : Type 0 where
   pub takes : Takes ws m spot p
 
 -- what the rule takes next at the star x, or none where x has no breach
-abbrev pub StarTaken : List ℕ → List ℕ → ℕ → Found → Type 0
-StarTaken ws m x (At p) = TakenAt ws m x p
-StarTaken ws m x Nothing = CleanUpTo ws m (x + 1)
+abbrev pub StarTaken : List ℕ → List ℕ → ℕ → Option ℕ → Type 0
+StarTaken ws m x (Some p) = TakenAt ws m x p
+StarTaken ws m x None = CleanUpTo ws m (x + 1)
 
 -- the replacement that the rule takes next at the choice x, or none where x has no breach
-abbrev pub NextTaken : List ℕ → List ℕ → ℕ → Numbering → Pair → Type 0
-NextTaken ws m x n (Pair.At i k) = StepIn m n i k × TakenAt ws m x (replace_in n i k)
-NextTaken ws m x n Pair.Nothing = CleanUpTo ws m (x + 1)
+abbrev pub NextTaken : List ℕ → List ℕ → ℕ → Numbering → Option (ℕ × ℕ) → Type 0
+NextTaken ws m x n (Some (i, k)) = StepIn m n i k × TakenAt ws m x (replace_in n i k)
+NextTaken ws m x n None = CleanUpTo ws m (x + 1)

@@ -1,8 +1,5 @@
 -- The loop keeps that the declarations so far are counted, their names listed, and the rest is left. Assumes nothing.
-use Prim.Native.Nat.{◌-◌, ◌≤◌}
-use mathlib.Core.Path.{◌≡◌}
-use mathlib.Core.List.{List}
-use lib.ListN.{length}
+use Rattle.std.proofs.Common.{◌-◌, ◌≤◌, ◌≡◌, List, length}
 use Rattle.grammar.specs.Tree.{Declaration}
 use Rattle.grammar.specs.Grammar.{Items}
 use Rattle.names.specs.Steps.Names.{Listed}

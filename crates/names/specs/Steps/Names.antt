@@ -6,8 +6,7 @@ use Rattle.model.specs.Names.{Misnamed}
 use Rattle.model.specs.Tables.{number_of}
 use Rattle.names.specs.Steps.Walk.{NameAt}
 use Rattle.names.specs.Steps.Order.{Upto}
-use Rattle.table.specs.declared.Found.{Found}
-use Rattle.table.specs.declared.Found.TheVariants.{At, Nothing}
+use Rattle.std.specs.Prelude.{Option, Some, None}
 
 -- an entry has two words: the place of a name, and its number
 abbrev pub place_in : List ℕ → ℕ → ℕ
@@ -80,9 +79,9 @@ pub record NumberRead (t list : List ℕ) (count a r : ℕ) : Type 0 where
   pub of : (ds : List Declaration) (n : List ℕ) → length ds ≡ count → count ≤ 256 → Listed t ds list count → NameAt t a n → r ≡ number_of ds n
 
 -- 22's place, or none
-abbrev pub FirstMisnamed : List Declaration → Found → Type 0
-FirstMisnamed ds (At k) = Misnamed ds k × ((j : ℕ) → j < k → ¬ Misnamed ds j)
-FirstMisnamed ds Nothing = (j : ℕ) → ¬ Misnamed ds j
+abbrev pub FirstMisnamed : List Declaration → Option ℕ → Type 0
+FirstMisnamed ds (Some k) = Misnamed ds k × ((j : ℕ) → j < k → ¬ Misnamed ds j)
+FirstMisnamed ds None = (j : ℕ) → ¬ Misnamed ds j
 
-pub record MisnamedRead (t list : List ℕ) (count : ℕ) (r : Found) : Type 0 where
+pub record MisnamedRead (t list : List ℕ) (count : ℕ) (r : Option ℕ) : Type 0 where
   pub of : (ds : List Declaration) → Items t 0 ds → length ds ≡ count → count ≤ 256 → Listed t ds list count → FirstMisnamed ds r

@@ -1,12 +1,11 @@
 -- Walking through the declarations of a text that is of the grammar. Assumes nothing.
-use Rattle.std.specs.Prelude.{ℕ, suc, ◌≤◌, ◌<◌, ◌≡◌, List, [], ◌∷◌, length}
+use Rattle.std.specs.Prelude.{ℕ, suc, ◌≤◌, ◌<◌, ◌≡◌, List, [], ◌∷◌, length, Option, Some, None}
 use Prim.Native.Char.{code}
 use Rattle.grammar.specs.Bytes.{is_name_byte, Byte, Of}
 use Rattle.grammar.specs.Tree.{Declaration}
 use Rattle.grammar.specs.Grammar.{Blanks, Name, Spec, Items}
 use Rattle.grammar.proofs.Pieces.{After}
-use Rattle.names.specs.declared.walk.Next.{Next}
-use Rattle.names.specs.declared.walk.Next.TheVariants.{Declared, End}
+use Rattle.names.specs.declared.walk.Declared.{Declared}
 
 -- the whole name at a
 pub record NameAt (t : List ℕ) (a : ℕ) (n : List ℕ) : Type 0 where
@@ -28,15 +27,15 @@ pub record DeclaredAt (t : List ℕ) (d : Declaration) (ds : List Declaration) (
   pub rest : Items t (suc close) ds
 
 -- the first declaration from a on, or none
-pub data NextOf (t : List ℕ) : List Declaration → Next → Type 0 where
-  none_left : NextOf t [] End
-  one_there : {d : Declaration} {ds : List Declaration} {name body : ℕ} → DeclaredAt t d ds name body → NextOf t (d ∷ ds) (Declared name body)
+pub data NextOf (t : List ℕ) : List Declaration → Option Declared → Type 0 where
+  none_left : NextOf t [] None
+  one_there : {d : Declaration} {ds : List Declaration} {p : Declared} → DeclaredAt t d ds p.name p.body → NextOf t (d ∷ ds) (Some p)
 
-abbrev pub Moved : List ℕ → ℕ → Next → Type 0
-Moved t a End = Unit {0}
-Moved t a (Declared name body) = (a < body) × (body ≤ length t)
+abbrev pub Moved : List ℕ → ℕ → Option Declared → Type 0
+Moved t a None = Unit {0}
+Moved t a (Some p) = (a < p.body) × (p.body ≤ length t)
 
-pub record NextRead (t : List ℕ) (a : ℕ) (r : Next) : Type 0 where
+pub record NextRead (t : List ℕ) (a : ℕ) (r : Option Declared) : Type 0 where
   pub of : (ds : List Declaration) → Items t a ds → NextOf t ds r
   pub moved : Moved t a r
 

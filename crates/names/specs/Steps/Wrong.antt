@@ -7,8 +7,7 @@ use Rattle.model.specs.Tables.{number_of}
 use Rattle.names.specs.Steps.Walk.{DeclaredAt}
 use Rattle.names.specs.Steps.Uses.{Flat}
 use Rattle.names.specs.Steps.Names.{Listed}
-use Rattle.table.specs.declared.Found.{Found}
-use Rattle.table.specs.declared.Found.TheVariants.{At, Nothing}
+use Rattle.std.specs.Prelude.{Option, Some, None}
 
 -- the declarations are counted, at most 256 of them, and their names listed
 pub record Counted (t : List ℕ) (ds : List Declaration) (list : List ℕ) (count : ℕ) : Type 0 where
@@ -17,9 +16,9 @@ pub record Counted (t : List ℕ) (ds : List Declaration) (list : List ℕ) (cou
   pub listed : Listed t ds list count
 
 -- the lowest place of which P holds, or none
-abbrev pub Lowest : (ℕ → Type 0) → Found → Type 0
-Lowest P (At k) = P k × ((j : ℕ) → j < k → ¬ P j)
-Lowest P Nothing = (j : ℕ) → ¬ P j
+abbrev pub Lowest : (ℕ → Type 0) → Option ℕ → Type 0
+Lowest P (Some k) = P k × ((j : ℕ) → j < k → ¬ P j)
+Lowest P None = (j : ℕ) → ¬ P j
 
 -- a used name, at place k, whose number is that of no declaration
 pub record Unknown (number : List ℕ → ℕ) (declared : ℕ) (us : List Use) (k : ℕ) : Type 0 where
@@ -35,11 +34,11 @@ pub data Wrong (number : List ℕ → ℕ) (declared m : ℕ) (d : Declaration) 
   unknown : Unknown number declared (uses_of d.content) k → Wrong number declared m d k
 
 -- the first of the names from a up to '>'
-pub record UnknownRead (t list : List ℕ) (count a : ℕ) (r : Found) : Type 0 where
+pub record UnknownRead (t list : List ℕ) (count a : ℕ) (r : Option ℕ) : Type 0 where
   pub of : (ds : List Declaration) (us : List Use) (c : ℕ) → Flat t a c us → Byte t c (code ">") → Counted t ds list count
       → Lowest (Unknown (number_of ds) count us) r
 
 -- the first of a declaration's names
-pub record WrongRead (t list : List ℕ) (count m name body : ℕ) (r : Found) : Type 0 where
+pub record WrongRead (t list : List ℕ) (count m name body : ℕ) (r : Option ℕ) : Type 0 where
   pub of : (ds : List Declaration) (d : Declaration) (rest : List Declaration) → DeclaredAt t d rest name body → Counted t ds list count
       → Lowest (Wrong (number_of ds) count m d) r

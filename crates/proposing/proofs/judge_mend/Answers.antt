@@ -1,44 +1,58 @@
 -- The checks in their order; then the proposed policy gets its verdict. Assumes nothing.
-use Rattle.proposing.specs.Answers.{AllKept, refused, unfit, changed, broken, accepted}
-use Rattle.verdict.proofs.Firsts.{verdict_clean, verdict_broken}
-use Rattle.policy.proofs.Policies.{policy_refused, policy_fits, marks_refused, marks_fit}
-use Rattle.policy.specs.Marks.{Fit, Policy}
+use Rattle.std.proofs.Common.{ℕ, List, arith, ◌≡◌, refl}
+use Rattle.std.proofs.lemmas.Result.{err_from_is_err_and}
 use Rattle.table.specs.Privilege.{privileges}
 use Rattle.table.proofs.Facts.{facts}
-use Rattle.std.proofs.Common.{length, ◌≤◌, arith, ◌≡◌, refl}
+use Rattle.policy.specs.Marks.{Fit, Policy}
+use Rattle.policy.specs.Steps.Checking.{PolicyAnswer, MarksAnswer}
+use Rattle.policy.proofs.Policies.{policy_none, policy_fits, marks_fit}
+use Rattle.verdict.proofs.Firsts.{verdict_clean, verdict_broken}
+use Rattle.proposing.specs.Answers.{refused, unfit, changed, broken, accepted}
+use Rattle.proposing.proofs.Misfits.{proposed_unfit}
 use Rattle.proposing.proofs.judge_mend.Goals as goal
 
-pub returns-then-checked-ne0 : goal.returns-then-checked-ne0
-returns-then-checked-ne0 c = refused (policy_refused c.if-checked-ne0.true c.check_policy-checked.ensures.answer) c.refused.ensures
+-- what is known behind both checks
+record Checked (ws marks proposed : List ℕ) (v : ℕ) : Type 0 where
+  policy : Policy ws marks
+  fit : Fit (privileges ws) proposed
+  size : v ≡ privileges ws
 
-pub returns-then-unfit-ne0 : goal.returns-then-unfit-ne0
-returns-then-unfit-ne0 c = let policy : Policy c.args.words.now c.args.marks.now × (c.check_policy-checked.result.place ≡ privileges c.args.words.now) = policy_fits c.if-checked-ne0.false c.check_policy-checked.ensures.answer in
-    let p = policy in
-    unfit p.0 (rw p.1 at (marks_refused c.if-unfit-ne0.true c.check_marks-fit.ensures)) c.refused-then-unfit-ne0.ensures
+checked : {ws marks proposed : List ℕ} {v : ℕ} → PolicyAnswer ws marks 0 v → MarksAnswer 13 v proposed 0 0 → Checked ws marks proposed v
+checked p m = let q = policy_fits refl p in record { policy = q.0; fit = rw q.1 at (marks_fit (omega arith) refl m); size = q.1 }
 
-pub returns-in-At : goal.returns-in-At
-returns-in-At c = let policy : Policy c.args.words.now c.args.marks.now × (c.check_policy-checked.result.place ≡ privileges c.args.words.now) = policy_fits c.if-checked-ne0.false c.check_policy-checked.ensures.answer in
-    let fit : Fit (privileges c.args.words.now) c.args.proposed.now = rw policy.1 at (marks_fit (omega arith) c.if-unfit-ne0.false c.check_marks-fit.ensures) in
-    let p = policy in
-    changed p.0 fit (rw p.1 at (rw c.in-At.is at c.lowest_change-found.ensures)) c.refused-in-At.ensures
+pub returns-in_err-v : goal.returns-in_err-v
+returns-in_err-v c = let p = err_from_is_err_and c.from_residual.result c.from_residual.ensures.1 in
+    rw (p.1, p.2) (refused (policy_none c.in_err-v.field-0.0 c.in_err-v.ensures.answer) refl)
+
+pub returns-in-Err : goal.returns-in-Err
+returns-in-Err c = let p : Policy c.args.words.now c.args.marks.now × (c.in_ok-v.v ≡ privileges c.args.words.now) = policy_fits refl c.in_ok-v.ensures.answer in
+    rw c.proposed_refusal.ensures (unfit p.0 (rw p.1 at (proposed_unfit c.in-Err.misfit (c.in-Err.ensures 13))) refl)
+
+pub lowest_change-requires : goal.lowest_change-requires
+lowest_change-requires c = let known = checked c.in_ok-v.ensures.answer (c.in_default.ensures 13) in
+    (omega (arith, known.size, known.policy.fit.size), omega (arith, known.size, known.fit.size))
+
+pub returns-in-Some : goal.returns-in-Some
+returns-in-Some c = let known = checked c.in_ok-v.ensures.answer (c.in_default.ensures 13) in
+    changed known.policy known.fit (rw known.size at c.in-Some.ensures) refl
+
+pub first_breach-breach-requires : goal.first_breach-breach-requires
+first_breach-breach-requires c = let known = checked c.in_ok-v.ensures.answer (c.in_default.ensures 13) in
+    (record { accepted = known.policy.accepted; fit = known.fit }, c.in_ok-v.ensures.up refl)
+
+pub returns-in_default-condition : goal.returns-in_default-condition
+returns-in_default-condition c = let known = checked c.in_ok-v.ensures.answer (c.in_default.ensures 13) in
+    broken known.policy known.fit (rw known.size at c.in_default-lowest_change.ensures)
+    (verdict_broken _ _ c.first_breach-breach.ensures c.in_default-condition.not-None) refl
 
 pub count_changes-requires : goal.count_changes-requires
-count_changes-requires c = let policy : Policy c.args.words.now c.args.marks.now × (c.check_policy-checked.result.place ≡ privileges c.args.words.now) = policy_fits c.if-checked-ne0.false c.check_policy-checked.ensures.answer in
-    let fit : Fit (privileges c.args.words.now) c.args.proposed.now = rw policy.1 at (marks_fit (omega arith) c.if-unfit-ne0.false c.check_marks-fit.ensures) in
-    let sizes : let v = c.check_policy-checked.result.place in (v ≤ length c.args.marks.now) × (v ≤ length c.args.proposed.now) = let p = policy in (omega (arith, p.1, p.0.fit.size), omega (arith, p.1, fit.size)) in
-    let p = policy in
-    (sizes.0, sizes.1, omega (arith, p.1, (facts p.0.accepted).privileges_few))
-
-pub returns-in-None : goal.returns-in-None
-returns-in-None c = let policy : Policy c.args.words.now c.args.marks.now × (c.check_policy-checked.result.place ≡ privileges c.args.words.now) = policy_fits c.if-checked-ne0.false c.check_policy-checked.ensures.answer in
-    let fit : Fit (privileges c.args.words.now) c.args.proposed.now = rw policy.1 at (marks_fit (omega arith) c.if-unfit-ne0.false c.check_marks-fit.ensures) in
-    let all_kept : AllKept c.args.words.now c.args.marks.now c.args.proposed.now = rw policy.1 at (rw c.in_default.is at c.lowest_change-found.ensures) in
-    let p = policy in
-    accepted p.0 fit all_kept (verdict_clean _ _ c.first_breach-breach.ensures c.in-None.is)
-    (rw p.1 at c.count_changes.ensures) c.done_with.ensures
+count_changes-requires c = let known = checked c.in_ok-v.ensures.answer (c.in_default.ensures 13) in (
+  omega (arith, known.size, known.policy.fit.size),
+  omega (arith, known.size, known.fit.size),
+  omega (arith, known.size, (facts known.policy.accepted).privileges_few),
+)
 
 pub returns : goal.returns
-returns c = let policy : Policy c.args.words.now c.args.marks.now × (c.check_policy-checked.result.place ≡ privileges c.args.words.now) = policy_fits c.if-checked-ne0.false c.check_policy-checked.ensures.answer in
-    let fit : Fit (privileges c.args.words.now) c.args.proposed.now = rw policy.1 at (marks_fit (omega arith) c.if-unfit-ne0.false c.check_marks-fit.ensures) in
-    let all_kept : AllKept c.args.words.now c.args.marks.now c.args.proposed.now = rw policy.1 at (rw c.in_default.is at c.lowest_change-found.ensures) in
-    broken policy.0 fit all_kept (verdict_broken _ _ c.first_breach-breach.ensures c.in_default-condition.not-None) refl
+returns c = let known = checked c.in_ok-v.ensures.answer (c.in_default.ensures 13) in
+    accepted known.policy known.fit (rw known.size at c.in_default-lowest_change.ensures)
+    (verdict_clean _ _ c.first_breach-breach.ensures c.in-None.is) (rw known.size at c.count_changes.ensures) refl

@@ -1,6 +1,5 @@
 -- The text before the place reached is the listing of the marks so far. Assumes nothing.
-use Prim.Native.Nat.{◌-◌}
-use lib.ListN.{length}
+use Rattle.std.proofs.Common.{◌-◌, length}
 use Rattle.labels.specs.Steps.Booked.{label_in}
 use Rattle.reading.proofs.Reached.{Reached}
 use Rattle.reading.proofs.read_lines.Given as goal

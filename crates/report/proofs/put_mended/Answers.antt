@@ -1,11 +1,6 @@
 -- A policy is mended. Assumes nothing.
-use Prim.Native.Nat.{◌≤◌}
-use mathlib.Core.Path.{refl, sym}
-use mathlib.Core.List.{[], ◌∷◌}
+use Rattle.std.proofs.Common.{◌≤◌, refl, sym, [], ◌∷◌, arith, length, take, length-take-le}
 use native.Mathlib.Nat.{sub-zero}
-use native.Mathlib.Omega.{arith}
-use lib.ListN.{length, take}
-use lib.Seq.{length-take-le}
 use Rattle.lines.proofs.Spaced.{line_length}
 use Rattle.report.specs.Report.{MendedLine, mended_word}
 use Rattle.lines.specs.Text.{line}

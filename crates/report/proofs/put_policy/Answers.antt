@@ -1,8 +1,5 @@
 -- Three lines stand one behind another, or one says why the marks are refused. Assumes nothing.
-use mathlib.Core.Path.{refl}
-use mathlib.Core.List.{[], ◌∷◌, ◌++◌}
-use native.Mathlib.Omega.{arith}
-use lib.ListN.{length-append}
+use Rattle.std.proofs.Common.{refl, [], ◌∷◌, ◌++◌, arith, length-append}
 use Rattle.lines.specs.Text.{line}
 use Rattle.runs.proofs.Texts.{puts_then}
 use Rattle.lines.proofs.Spaced.{line_length}

@@ -1,11 +1,7 @@
 -- The loop has read the words passed. Assumes nothing.
-use Prim.Native.Nat.{◌-◌}
 use Rattle.runs.proofs.Texts.{Filled}
 use Rattle.report.specs.File.{words_of}
 use Rattle.report.proofs.read_words.Given as goal
 
 abbrev pub invariant-loop-k : goal.invariant-loop-k
 invariant-loop-k l = Filled l.initial.words 0 (words_of l.file) l.k l.words
-
-abbrev pub decreases-loop-k : goal.decreases-loop-k
-decreases-loop-k l = l.n - l.k

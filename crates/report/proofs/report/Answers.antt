@@ -1,8 +1,5 @@
 -- The text stands at the start of the bytes. Assumes nothing.
-use Prim.Native.Nat.{ℕ}
-use mathlib.Core.Path.{refl, sym, subst}
-use mathlib.Core.List.{[], List, ◌∷◌}
-use native.Mathlib.Omega.{arith}
+use Rattle.std.proofs.Common.{ℕ, refl, sym, subst, [], List, ◌∷◌, arith}
 use Rattle.runs.proofs.Texts.{puts_first}
 use Rattle.lines.proofs.Spaced.{line_length}
 use Rattle.report.specs.Report.{table_word, Report, long}

@@ -1,11 +1,7 @@
 -- The loop has written the positions before k. Assumes nothing.
-use Prim.Native.Nat.{◌-◌}
-use lib.ListN.{length, take}
+use Rattle.std.proofs.Common.{take}
 use Rattle.report.proofs.Numbers.{Written}
 use Rattle.report.proofs.verdict_numbers.Given as goal
 
 abbrev pub invariant-loop-k : goal.invariant-loop-k
 invariant-loop-k l = Written (take 5 l.initial.numbers) l.positions l.k l.numbers
-
-abbrev pub decreases-loop-k : goal.decreases-loop-k
-decreases-loop-k l = length l.positions - l.k

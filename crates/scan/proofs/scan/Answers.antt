@@ -1,13 +1,10 @@
-use Prim.Native.Nat.{◌-◌}
-use native.Mathlib.Omega.{arith}
-use mathlib.Core.Path.{refl}
+-- The first 65,538 bytes tell it, or the text is too long.
+use Rattle.std.proofs.Common.{refl, arith}
 use Rattle.scan.proofs.Whole.{scanned, too_long}
 use Rattle.scan.proofs.scan.Goals as goal
 
--- src/lib.rt:45:9
 pub returns-then-place-gt65536 : goal.returns-then-place-gt65536
-returns-then-place-gt65536 c = let a = c.args in too_long a.s.now _ (c.least-n.result - 0) (omega (arith, c.least-n.ensures)) refl c.items-r.result (omega (arith, c.place.ensures)) c.items-r.ensures
+returns-then-place-gt65536 c = too_long c.args.s.now _ c.min-n.result (omega arith) refl c.items-r.result (omega arith) c.items-r.ensures
 
--- src/lib.rt:39:1
 pub returns : goal.returns
-returns c = let a = c.args in scanned a.s.now _ (c.least-n.result - 0) (omega (arith, c.least-n.ensures)) refl c.items-r.result (omega (arith, c.place.ensures)) c.items-r.ensures
+returns c = scanned c.args.s.now _ c.min-n.result (omega arith) refl c.items-r.result (omega arith) c.items-r.ensures

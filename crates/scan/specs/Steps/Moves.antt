@@ -2,8 +2,9 @@
 use Rattle.std.specs.Prelude.{ℕ, suc, ◌≤◌, ◌<◌, List, length}
 use Rattle.scan.specs.Steps.Agree.{Agree}
 use Rattle.scan.specs.Steps.Claims.{Mode, plain, limit, Claim}
-use Rattle.scan.specs.declared.Step.{Step}
-use Rattle.scan.specs.declared.Step.TheVariants.{At, Bad, Over}
+use Rattle.scan.specs.declared.Stop.{Stop}
+use Rattle.std.specs.Prelude.{Result, Ok, Err}
+use Rattle.scan.specs.declared.Stop.TheVariants.{Bad, Over}
 
 -- k is the first place that cannot stand
 pub record Stuck (P : Claim) (t : List ℕ) (a k : ℕ) : Type 0 where
@@ -37,7 +38,7 @@ pub record Moves (P Q : Claim) (t : List ℕ) (a b : ℕ) : Type 0 where
   pub free : Free P t a b
 
 -- what a reader answers: the claim that is left, or a place
-pub data Reads (P Q : Claim) (t : List ℕ) (a : ℕ) : Step → Type 0 where
-  got : {e : ℕ} → Moves P Q t a e → Reads P Q t a (At e)
-  bad : {k : ℕ} → Stuck P t a k → Free P t a k → Reads P Q t a (Bad k)
-  over : {k : ℕ} → Exceeds P t a k → Free P t a k → Reads P Q t a (Over k)
+pub data Reads (P Q : Claim) (t : List ℕ) (a : ℕ) : Result ℕ Stop → Type 0 where
+  got : {e : ℕ} → Moves P Q t a e → Reads P Q t a (Ok e)
+  bad : {k : ℕ} → Stuck P t a k → Free P t a k → Reads P Q t a (Err (Bad k))
+  over : {k : ℕ} → Exceeds P t a k → Free P t a k → Reads P Q t a (Err (Over k))

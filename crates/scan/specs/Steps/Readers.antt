@@ -3,8 +3,9 @@ use Rattle.std.specs.Prelude.{ℕ, suc, ◌+◌, ◌≤◌, ◌≡◌, Bool, tru
 use Prim.Native.Char.{code}
 use Rattle.grammar.specs.Bytes.{is_space, is_name_start, is_name_byte, Byte, Of, Span, Literal}
 use Rattle.grammar.specs.Grammar.{Blanks}
-use Rattle.scan.specs.declared.Step.{Step}
-use Rattle.scan.specs.declared.Step.TheVariants.{At, Bad, Over}
+use Rattle.scan.specs.declared.Stop.{Stop}
+use Rattle.std.specs.Prelude.{Result, Ok, Err}
+use Rattle.scan.specs.declared.Stop.TheVariants.{Bad, Over}
 
 -- yes is right, and so is no
 abbrev pub Tells : Type 0 → Bool → Type 0
@@ -25,10 +26,10 @@ pub record BlanksRead (t : List ℕ) (a e : ℕ) : Type 0 where
   pub over : ¬ Of is_space t e
 
 -- one byte or more of it
-abbrev pub SpaceRead : List ℕ → ℕ → Step → Type 0
-SpaceRead t a (At e) = Of is_space t a × BlanksRead t (suc a) e
-SpaceRead t a (Bad k) = (k ≡ a) × (¬ Of is_space t a)
-SpaceRead t a (Over k) = ⊥
+abbrev pub SpaceRead : List ℕ → ℕ → Result ℕ Stop → Type 0
+SpaceRead t a (Ok e) = Of is_space t a × BlanksRead t (suc a) e
+SpaceRead t a (Err (Bad k)) = (k ≡ a) × (¬ Of is_space t a)
+SpaceRead t a (Err (Over k)) = ⊥
 
 -- one byte of a class, or none
 pub data MaybeRead (class : ℕ → Bool) (t : List ℕ) : ℕ → ℕ → Type 0 where
@@ -50,23 +51,23 @@ pub record NameLong (t : List ℕ) (a k : ℕ) : Type 0 where
   pub goes_on : Of is_name_byte t k
   pub long : k ≡ a + 32
 
-abbrev pub NameRead : List ℕ → ℕ → Step → Type 0
-NameRead t a (At e) = NameGot t a e
-NameRead t a (Bad k) = (k ≡ a) × (¬ Of is_name_start t a)
-NameRead t a (Over k) = NameLong t a k
+abbrev pub NameRead : List ℕ → ℕ → Result ℕ Stop → Type 0
+NameRead t a (Ok e) = NameGot t a e
+NameRead t a (Err (Bad k)) = (k ≡ a) × (¬ Of is_name_start t a)
+NameRead t a (Err (Over k)) = NameLong t a k
 
 -- the bytes stand there up to k, and not at k
 pub data Differs (t : List ℕ) : List ℕ → ℕ → ℕ → Type 0 where
   here : {c a : ℕ} {cs : List ℕ} → a ≤ length t → ¬ Byte t a c → Differs t (c ∷ cs) a a
   later : {c a k : ℕ} {cs : List ℕ} → Byte t a c → Differs t cs (suc a) k → Differs t (c ∷ cs) a k
 
-abbrev pub WordRead : List ℕ → List ℕ → ℕ → Step → Type 0
-WordRead t cs a (At e) = (e ≤ length t) × Literal t cs a e
-WordRead t cs a (Bad k) = Differs t cs a k
-WordRead t cs a (Over k) = ⊥
+abbrev pub WordRead : List ℕ → List ℕ → ℕ → Result ℕ Stop → Type 0
+WordRead t cs a (Ok e) = (e ≤ length t) × Literal t cs a e
+WordRead t cs a (Err (Bad k)) = Differs t cs a k
+WordRead t cs a (Err (Over k)) = ⊥
 
 -- the place of a step
-abbrev pub place_of : Step → ℕ
-place_of (At e) = e
-place_of (Bad k) = k
-place_of (Over k) = k
+abbrev pub place_of : Result ℕ Stop → ℕ
+place_of (Ok e) = e
+place_of (Err (Bad k)) = k
+place_of (Err (Over k)) = k

@@ -5,8 +5,9 @@ use Rattle.grammar.specs.Tree.{Declaration}
 use Rattle.grammar.specs.Grammar.{Text}
 use Rattle.grammar.specs.Stops.{Stops}
 use Rattle.grammar.specs.Limits as limits
-use Rattle.scan.specs.declared.Step.{Step}
-use Rattle.scan.specs.declared.Step.TheVariants.{At, Bad, Over}
+use Rattle.scan.specs.declared.Stop.{Stop}
+use Rattle.std.specs.Prelude.{Result, Ok, Err}
+use Rattle.scan.specs.declared.Stop.TheVariants.{Bad, Over}
 
 -- 20 at k
 pub record Stopped (t : List ℕ) (k : ℕ) : Type 0 where
@@ -26,7 +27,7 @@ pub record Read (t : List ℕ) : Type 0 where
   pub text : Text t head tail
   pub small : (k : ℕ) → ¬ limits.Over t k
 
-abbrev pub Scanned : List ℕ → Step → Type 0
-Scanned t (At e) = (e ≡ length t) × Read t
-Scanned t (Bad k) = Stopped t k
-Scanned t (Over k) = Passed t k
+abbrev pub Scanned : List ℕ → Result ℕ Stop → Type 0
+Scanned t (Ok e) = (e ≡ length t) × Read t
+Scanned t (Err (Bad k)) = Stopped t k
+Scanned t (Err (Over k)) = Passed t k

@@ -1,3 +1,4 @@
+-- So many bytes stand at the front of the buffer, as the reader gave them. Assumes nothing.
 use Rattle.std.proofs.Common.{length, ◌-◌, ◌≤◌, take}
 use Rattle.std.specs.Io.KnownBytes.{Consumes}
 use Rattle.stream.proofs.read_full.Given as goal

@@ -1,13 +1,11 @@
 -- What a search found, and what a flag tells. Assumes nothing.
-use Rattle.std.specs.Prelude.{ℕ, ◌<◌, Bool, true, false}
+use Rattle.std.specs.Prelude.{ℕ, ◌<◌, Bool, true, false, Option, Some, None}
 use Rattle.table.specs.Lowest.{LowestAt}
-use Rattle.table.specs.declared.Found.{Found}
-use Rattle.table.specs.declared.Found.TheVariants.{At, Nothing}
 
 -- what was found: the lowest of n places at which Good fails, or nothing where it holds at each
-abbrev pub Lowest : (ℕ → Type 0) → ℕ → Found → Type 0
-Lowest Good n (At k) = LowestAt Good n k
-Lowest Good n Nothing = (k : ℕ) → k < n → Good k
+abbrev pub Lowest : (ℕ → Type 0) → ℕ → Option ℕ → Type 0
+Lowest Good n (Some k) = LowestAt Good n k
+Lowest Good n None = (k : ℕ) → k < n → Good k
 
 -- a flag that is true exactly if P holds
 abbrev pub Tells : Type 0 → Bool → Type 0

@@ -1,5 +1,5 @@
 -- What is known where a search for breaches visits a type, what it finds there, and the search over pairs of positions. Assumes nothing.
-use Rattle.std.specs.Prelude.{ℕ, ◌<◌, ◌≡◌, true, List}
+use Rattle.std.specs.Prelude.{ℕ, ◌<◌, ◌≡◌, true, List, Option, Some, None}
 use Rattle.table.specs.Words.{types}
 use Rattle.table.specs.Rule.{children_at}
 use Rattle.table.specs.declared.privilege.Numbering.{Numbering}
@@ -7,19 +7,13 @@ use Rattle.policy.specs.Marks.{Policy}
 use Rattle.verdict.specs.Breaches.{CycleBreach, BreachBy, FirstSpot}
 use Rattle.policy.specs.Steps.Squares.{marked, ForbiddenIn}
 use Rattle.verdict.specs.declared.Spot.{Spot}
-use Rattle.verdict.specs.declared.Condition.TheVariants.{None, InsertDelete, Cycle}
-use Rattle.verdict.specs.declared.breaches.Pair.{Pair}
-use Rattle.verdict.specs.declared.breaches.Pair.TheVariants.{At, Nothing}
+use Rattle.verdict.specs.declared.Condition.TheVariants.{InsertDelete, Cycle}
 
 -- a type of a policy, with its children at hand
 pub record Visited (ws marks : List ℕ) (x : ℕ) (kids : List ℕ) : Type 0 where
   pub policy : Policy ws marks
   pub type : x < types ws
   pub kids_are : kids ≡ children_at ws x
-
--- no spot: four zeros
-abbrev pub no_spot : Spot
-no_spot = record { condition = None; element = 0; i = 0; j = 0 }
 
 -- a breach of condition 1 is at one spot
 abbrev pub star_spot : ℕ → Spot
@@ -38,14 +32,14 @@ pub record FirstAt (P : ℕ → ℕ → Type 0) (n i j : ℕ) : Type 0 where
   pub rows : (a : ℕ) → a < i → (b : ℕ) → b < n → ¬ P a b
   pub row : (b : ℕ) → b < j → ¬ P i b
 
-abbrev pub FirstPair : (ℕ → ℕ → Type 0) → ℕ → Pair → Type 0
-FirstPair P n (At i j) = FirstAt P n i j
-FirstPair P n Nothing = (a : ℕ) → a < n → (b : ℕ) → b < n → ¬ P a b
+abbrev pub FirstPair : (ℕ → ℕ → Type 0) → ℕ → Option (ℕ × ℕ) → Type 0
+FirstPair P n (Some (i, j)) = FirstAt P n i j
+FirstPair P n None = (a : ℕ) → a < n → (b : ℕ) → b < n → ¬ P a b
 
 -- what a search finds: the first spot that is broken, or none; Breaks s p says that p breaks the spot s
-pub data Searched (Breaks : Spot → ℕ → Type 0) (s : Spot) : Type 0 where
-  none : s ≡ no_spot → ((t : Spot) (p : ℕ) → ¬ Breaks t p) → Searched Breaks s
-  first : FirstSpot Breaks s → Searched Breaks s
+abbrev pub Searched : (Spot → ℕ → Type 0) → Option Spot → Type 0
+Searched Breaks (Some s) = FirstSpot Breaks s
+Searched Breaks None = (t : Spot) (p : ℕ) → ¬ Breaks t p
 
 -- p breaks the spot s, which is at type x
 pub record BreachAt (ws marks : List ℕ) (B : ℕ → ℕ → Type 0) (x : ℕ) (s : Spot) (p : ℕ) : Type 0 where

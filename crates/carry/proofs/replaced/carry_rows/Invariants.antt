@@ -1,11 +1,7 @@
 -- Where all is alike the replacements are moved at once; else the rows passed are moved. Assumes nothing.
-use Prim.Native.Nat.{◌-◌, ◌≤◌}
 use Rattle.carry.specs.Steps.Scattering.{Scattered}
 use Rattle.carry.specs.Steps.Placing.{RowsTo, Replaces}
 use Rattle.carry.proofs.replaced.carry_rows.Given as goal
 
 abbrev pub invariant-loop-i : goal.invariant-loop-i
-invariant-loop-i l = (l.i ≤ l.count) × Scattered (Replaces l.from l.to l.at (RowsTo l.i)) l.marks l.initial.out l.initial.lost l.out l.lost
-
-abbrev pub decreases-loop-i : goal.decreases-loop-i
-decreases-loop-i l = l.count - l.i
+invariant-loop-i l = Scattered (Replaces l.from l.to l.at (RowsTo l.i)) l.marks l.initial.out l.initial.lost l.out l.lost

@@ -1,5 +1,5 @@
 -- Where nothing is forbidden and nothing is kept all is right, else the entries are written along the order. Assumes nothing.
-use native.Mathlib.Omega.{arith}
+use Rattle.std.proofs.Common.{arith}
 use Rattle.table.proofs.Facts.{facts, accepted_childed}
 use Rattle.table.proofs.Lowest.{told_yes}
 use Rattle.editing.proofs.Writing.{tally_small, renewed_blank, renewed}
@@ -7,8 +7,7 @@ use Rattle.editing.proofs.entries.renew_entries.Goals as goal
 
 pub returns-then-is_blank : goal.returns-then-is_blank
 returns-then-is_blank c = let blank = told_yes c.is_blank.result c.is_blank.ensures c.if-is_blank.true in
-    renewed_blank c.requires.0.accepted c.all_forbidden-all.ensures c.if-all-eq0.true
-    (rw c.types.ensures.is at blank)
+    renewed_blank c.requires.0.accepted c.all_forbidden-all.ensures c.if-all-eq0.true (rw c.types.ensures.is at blank)
 
 pub put_entry-requires : goal.put_entry-requires
 put_entry-requires c = let a = c.requires.0.accepted in

@@ -1,8 +1,5 @@
 -- The loop keeps that the names of the declarations so far are entered, and the rest is left. Assumes nothing.
-use native.Mathlib.Omega.{arith}
-use native.Mathlib.Numerals.{add-one}
-use mathlib.Core.Path.{sym, ◌∙◌}
-use lib.ListN.{length-set}
+use Rattle.std.proofs.Common.{sym, ◌∙◌, add-one, arith, length-set}
 use Rattle.names.proofs.Gone.{gone_start, gone_step, gone_more, gone_all}
 use Rattle.labels.proofs.Bookings.{booking_start}
 use Rattle.labels.proofs.Turns.{booking_declared}
@@ -13,16 +10,8 @@ loop-name-init c = let a = c.args.starts.now in
     let p = c.requires in
     (omega arith, omega arith, p.0, length-set a 0 0 ∙ p.1, λ ds x s h. (gone_start x, booking_start a (omega (arith, p.1))))
 
-pub overflow_add-count : goal.overflow_add-count
-overflow_add-count c = let l = c.loop-name.invariant in
-    omega (arith, l.0, l.1)
-
-pub loop-name-smaller : goal.loop-name-smaller
-loop-name-smaller c = let x = rw c.in-Declared.is at c.declaration_from.ensures in
-    omega (arith, x.moved.0, x.moved.1, c.place_behind-at.ensures.from)
-
 pub loop-name-preserved : goal.loop-name-preserved
-loop-name-preserved c = let x = rw c.in-Declared.is at c.declaration_from.ensures in
+loop-name-preserved c = let x = c.in-Some.ensures in
     let b = c.place_behind-at.ensures in
     let n = c.name_end.ensures in
     let q = c.part.ensures in
@@ -37,8 +26,8 @@ loop-name-preserved c = let x = rw c.in-Declared.is at c.declaration_from.ensure
           rw (add-one c.loop-name.count) (gone_more s b, booking_declared short few s n q p g.1)),
     )
 
-pub returns-in-End : goal.returns-in-End
-returns-in-End c = let x = rw c.in-End.is at c.declaration_from.ensures in
+pub returns : goal.returns
+returns c = let x = c.in_default.ensures in
     record {
       names_kept = c.loop-name.invariant.2 ∙ sym c.requires.0;
       starts_kept = c.loop-name.invariant.3 ∙ sym c.requires.1;

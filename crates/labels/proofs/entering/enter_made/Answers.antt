@@ -1,5 +1,5 @@
 -- The bytes entered are `#` and the digits of x, by how many there are. Assumes nothing.
-use native.Mathlib.Omega.{arith}
+use Rattle.std.proofs.Common.{arith}
 use Rattle.labels.proofs.Bookings.{entered_as}
 use Rattle.labels.proofs.Turns.{made_ones, made_tens, made_hundreds}
 use Rattle.labels.proofs.entering.enter_made.Goals as goal

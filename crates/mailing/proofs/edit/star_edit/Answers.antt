@@ -1,5 +1,5 @@
 -- By its number: insert, delete, or the exchange. Assumes nothing.
-use native.Mathlib.Omega.{arith}
+use Rattle.std.proofs.Common.{arith}
 use Rattle.table.proofs.Facts.{has_children}
 use Rattle.mailing.proofs.Naming.{star_inserts, star_deletes, star_exchanges}
 use Rattle.mailing.proofs.edit.star_edit.Goals as goal

@@ -1,6 +1,5 @@
 -- The label of the child stands behind the verb. Assumes nothing.
-use mathlib.Core.List.{[], ◌∷◌}
-use native.Mathlib.Omega.{arith}
+use Rattle.std.proofs.Common.{[], ◌∷◌, arith}
 use Rattle.labels.specs.Steps.Booked.{label_in}
 use Rattle.mailing.proofs.Wording.{fits_more, two_length}
 use Rattle.mailing.proofs.line.put_child.Goals as goal

@@ -1,5 +1,5 @@
 -- The sign is put, the parts and the newline. Assumes nothing.
-use native.Mathlib.Omega.{arith}
+use Rattle.std.proofs.Common.{arith}
 use Rattle.labels.specs.Steps.Booked.{label_in}
 use Rattle.listing.specs.Line.{parts_of}
 use Rattle.mailing.specs.Steps.Naming.{named_by}

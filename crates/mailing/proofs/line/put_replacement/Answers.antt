@@ -1,8 +1,5 @@
 -- The label of the child that comes stands behind that of the one that goes. Assumes nothing.
-use Prim.Native.Nat.{ℕ}
-use mathlib.Core.Path.{refl, ap}
-use mathlib.Core.List.{List, [], ◌∷◌}
-use native.Mathlib.Omega.{arith}
+use Rattle.std.proofs.Common.{ℕ, refl, ap, List, [], ◌∷◌, arith}
 use Rattle.grammar.specs.Bytes.{ascii}
 use Rattle.runs.proofs.Texts.{fits_as}
 use Rattle.labels.specs.Steps.Booked.{label_in}

@@ -1,5 +1,5 @@
 -- Where the star has a breach, by whether both are allowed. Assumes nothing.
-use mathlib.Core.Path.{◌∙◌}
+use Rattle.std.proofs.Common.{◌∙◌}
 use Rattle.table.proofs.Lowest.{told_yes, told_no}
 use Rattle.table.proofs.Privileges.{delete_in_lem, exchange_in_lem}
 use Rattle.policy.proofs.Renewals.{both_out, both_into}
@@ -7,22 +7,17 @@ use Rattle.mending.specs.Mends.{delete, exchange}
 use Rattle.mending.proofs.Next.{next_none, star_next}
 use Rattle.mending.proofs.taking.star_taken.Goals as goal
 
-pub star_breach-spot-requires : goal.star_breach-spot-requires
-star_breach-spot-requires c = let p = c.requires in
-    let v = p.0 in
-    (record { policy = v.policy; type = v.type; kids_are = v.kids_are }, v.numbered, p.1)
-
-pub returns-in-None : goal.returns-in-None
-returns-in-None c = next_none c.requires.0 c.star_breach-spot.ensures c.in-None.is
+pub returns-in_default : goal.returns-in_default
+returns-in_default c = next_none c.requires.0 c.in_default.ensures
 
 pub returns-then-both_allowed : goal.returns-then-both_allowed
 returns-then-both_allowed c = let p = c.requires in
     let n = p.0.numbered in
-    star_next p.0 c.star_breach-spot.ensures c.in_default.not-None p.1
+    star_next p.0 c.in-Some.ensures p.1
     (delete (both_out n (told_yes c.both_allowed.result c.both_allowed.ensures c.if-both_allowed.true)) (c.deletion.ensures ∙ delete_in_lem n))
 
 pub returns : goal.returns
 returns c = let p = c.requires in
     let n = p.0.numbered in
-    star_next p.0 c.star_breach-spot.ensures c.in_default.not-None p.1
+    star_next p.0 c.in-Some.ensures p.1
     (exchange (λ b. told_no c.both_allowed.result c.both_allowed.ensures c.if-both_allowed.false (both_into n b)) (c.exchange.ensures ∙ exchange_in_lem n))

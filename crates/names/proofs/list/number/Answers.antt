@@ -3,4 +3,4 @@ use Rattle.names.proofs.Finding.{number_read}
 use Rattle.names.proofs.list.number.Goals as goal
 
 pub returns : goal.returns
-returns c = number_read c.lesser.ensures c.rank-k.ensures c.number_before.ensures
+returns c = number_read c.min.ensures c.rank-k.ensures c.number_before.ensures

@@ -1,7 +1,5 @@
 -- The last entry that stands up to the name is its own, if it does not stand before it. Assumes nothing.
-use Prim.Native.Nat.{◌+◌, ◌-◌, ◌*◌}
-use native.Mathlib.Omega.{arith}
-use mathlib.Core.Path.{◌≡◌}
+use Rattle.std.proofs.Common.{◌+◌, ◌-◌, ◌*◌, arith, ◌≡◌}
 use Rattle.scan.proofs.Told.{yes_told, no_told}
 use Rattle.names.proofs.Finding.{before_first, before_hit, before_miss}
 use Rattle.names.proofs.list.number_before.Goals as goal

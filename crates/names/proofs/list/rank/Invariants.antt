@@ -1,6 +1,5 @@
 -- The loop keeps which entries stand up to the name and which do not. Assumes nothing.
-use Prim.Native.Nat.{ℕ, ◌-◌, ◌≤◌}
-use mathlib.Core.List.{List}
+use Rattle.std.proofs.Common.{ℕ, ◌-◌, ◌≤◌, List}
 use Rattle.grammar.specs.Tree.{Declaration}
 use Rattle.names.specs.Steps.Walk.{NameAt}
 use Rattle.names.specs.Steps.Names.{Listed, Ranked}

@@ -1,12 +1,10 @@
 -- The first of the names from here on is the first of all, since those so far are declared. Assumes nothing.
-use Prim.Native.Nat.{◌-◌}
-use lib.ListN.{length}
-use Rattle.table.specs.declared.Found.{Found}
+use Rattle.std.proofs.Common.{ℕ, ◌-◌, length, Option}
 use Rattle.names.specs.Steps.Wrong.{UnknownRead}
 use Rattle.names.proofs.misnamed.first_unknown.Given as goal
 
 abbrev pub invariant-loop-i : goal.invariant-loop-i
-invariant-loop-i l = (r : Found) → UnknownRead l.s l.list l.count l.i r → UnknownRead l.s l.list l.count l.at r
+invariant-loop-i l = (r : Option ℕ) → UnknownRead l.s l.list l.count l.i r → UnknownRead l.s l.list l.count l.at r
 
 abbrev pub decreases-loop-i : goal.decreases-loop-i
 decreases-loop-i l = length l.s - l.i

@@ -1,5 +1,5 @@
 -- A declaration's own name stands before those that it uses. Assumes nothing.
-use native.Mathlib.Omega.{arith}
+use Rattle.std.proofs.Common.{arith}
 use Rattle.names.proofs.Wrongs.{wrong_again, wrong_used}
 use Rattle.names.proofs.misnamed.first_wrong.Goals as goal
 

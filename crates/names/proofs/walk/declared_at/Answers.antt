@@ -1,15 +1,12 @@
--- White space and names end at one place only. Assumes nothing.
-use native.Mathlib.Omega.{arith}
-use Rattle.scan.proofs.Agreeing.{span_le}
+-- White space and names end at one place only.
+use Rattle.std.proofs.Common.{arith}
 use Rattle.names.specs.Steps.Walk.{one_there}
+use Rattle.scan.proofs.Agreeing.{span_le}
 use Rattle.names.proofs.Items.{element_long, element_at}
 use Rattle.names.proofs.walk.declared_at.Goals as goal
 
 pub returns-then-s-at : goal.returns-then-s-at
 returns-then-s-at c = record { of = λ b d ds x r. absurd (omega (arith, element_long x)); moved = tt }
-
-pub blanks-body-requires : goal.blanks-body-requires
-blanks-body-requires c = c.name_end.ensures.inside c.blanks-name.ensures.inside
 
 pub returns : goal.returns
 returns c = let x = c.blanks-name.ensures in

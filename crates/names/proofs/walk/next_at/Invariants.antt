@@ -1,7 +1,5 @@
 -- The loop keeps that the items from the start on are those from here on. Assumes nothing.
-use Prim.Native.Nat.{◌-◌, ◌≤◌}
-use mathlib.Core.List.{List}
-use lib.ListN.{length}
+use Rattle.std.proofs.Common.{◌-◌, ◌≤◌, List, length}
 use Rattle.grammar.specs.Tree.{Declaration}
 use Rattle.grammar.specs.Grammar.{Items}
 use Rattle.names.proofs.walk.next_at.Given as goal

@@ -1,6 +1,5 @@
 -- The loop keeps that a comment from the start on is one from here on. Assumes nothing.
-use Prim.Native.Nat.{ℕ, ◌-◌, ◌≤◌}
-use lib.ListN.{length}
+use Rattle.std.proofs.Common.{ℕ, ◌-◌, ◌≤◌, length}
 use Rattle.grammar.specs.Grammar.{Remark}
 use Rattle.names.proofs.walk.remark_end.Given as goal
 

@@ -2,11 +2,7 @@
 use Rattle.table.proofs.Lowest.{Passed}
 use Rattle.proposing.specs.Proposals.{Kept}
 use Rattle.pairs.specs.Maps.{maps, marks_of}
-use Prim.Native.Nat.{◌-◌}
 use Rattle.pairs.proofs.changes.lowest_change.Given as goal
 
 abbrev pub invariant-loop-p : goal.invariant-loop-p
 invariant-loop-p l = Passed (Kept (marks_of l.v (maps l.allowed l.forbidden)) (marks_of l.v (maps l.proposed_allowed l.proposed_forbidden))) l.v l.p
-
-abbrev pub decreases-loop-p : goal.decreases-loop-p
-decreases-loop-p l = l.v - l.p

@@ -1,12 +1,8 @@
 -- The spare bits are the last byte's from the privileges' own on. Assumes nothing.
-use native.Mathlib.Omega.{arith}
-use Prim.Native.Nat.{◌/◌}
+use Rattle.std.proofs.Common.{◌/◌, arith}
 use Rattle.table.proofs.Lowest.{tells_ne_as}
-use Rattle.pairs.proofs.Paired.{spare_whole, spare_out, spare_into}
+use Rattle.pairs.proofs.Paired.{spare_out, spare_into}
 use Rattle.pairs.proofs.check.has_spare.Goals as goal
-
-pub returns-then-own-eq0 : goal.returns-then-own-eq0
-returns-then-own-eq0 c = spare_whole c.requires.0 c.if-own-eq0.true
 
 pub returns : goal.returns
 returns c = let map = c.args.map.now in

@@ -1,10 +1,6 @@
 -- The loop has closed the square over the positions below k. Assumes nothing.
-use Prim.Native.Nat.{◌-◌}
 use Rattle.policy.proofs.SquareLaws.{ClosedSoFar}
 use Rattle.policy.proofs.reach.close.Given as goal
 
 abbrev pub invariant-loop-k : goal.invariant-loop-k
 invariant-loop-k l = ClosedSoFar l.n l.k l.initial.closed l.closed
-
-abbrev pub decreases-loop-k : goal.decreases-loop-k
-decreases-loop-k l = l.n - l.k

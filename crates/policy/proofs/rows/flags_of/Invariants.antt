@@ -4,6 +4,3 @@ use Rattle.policy.proofs.rows.flags_of.Given as goal
 
 abbrev pub invariant-loop-k : goal.invariant-loop-k
 invariant-loop-k l = FlagsFrom l.marks l.at l.size l.k l.flags
-
-abbrev pub decreases-loop-k : goal.decreases-loop-k
-decreases-loop-k l = l.k

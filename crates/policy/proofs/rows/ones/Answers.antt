@@ -1,5 +1,5 @@
 -- Sixteen marks are told at once, or some one by one. Assumes nothing.
-use native.Mathlib.Omega.{arith}
+use Rattle.std.proofs.Common.{arith}
 use Rattle.policy.proofs.RowMarks.{ones_tell, sixteen_tell}
 use Rattle.policy.proofs.rows.ones.Goals as goal
 

@@ -1,11 +1,7 @@
 -- Sixteen marks are told at once, and the gap is opened at the missing position. Assumes nothing.
-use mathlib.Core.Path.{refl}
-use native.Mathlib.Omega.{arith}
+use Rattle.std.proofs.Common.{refl}
 use Rattle.policy.proofs.RowMarks.{ones_tell, twos_tell, marked_row}
 use Rattle.policy.proofs.rows.read_at_once.Goals as goal
-
-pub width-own-requires : goal.width-own-requires
-width-own-requires c = let p = c.requires in (p.0.room.small, omega (arith, p.1))
 
 pub returns : goal.returns
 returns c = let small = c.requires.0.room.small in

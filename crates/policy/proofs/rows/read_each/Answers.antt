@@ -1,5 +1,5 @@
 -- The row's own marks are told one by one, and the gap is opened at the missing position. Assumes nothing.
-use mathlib.Core.Path.{refl}
+use Rattle.std.proofs.Common.{refl}
 use Rattle.policy.proofs.RowMarks.{row_room, own_row_lem}
 use Rattle.policy.proofs.rows.read_each.Goals as goal
 

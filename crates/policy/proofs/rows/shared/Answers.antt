@@ -1,12 +1,15 @@
 -- By the bits of what they share. Assumes nothing.
-use mathlib.Core.Path.{refl}
-use native.Mathlib.Omega.{arith}
-use Rattle.policy.specs.Steps.Squares.{on, off}
+use Rattle.std.proofs.Common.{◌≡◌, ℕ, ◌<◌, Bool, true, false, not, refl, bit_and, arith}
+use mir.Val.{bool_byte}
+use Rattle.table.specs.Steps.Found.{Tells}
+use Rattle.table.proofs.Lowest.{tells_eq}
+use Rattle.policy.specs.Steps.Squares.{Flags, Shared, on, off}
 use Rattle.policy.proofs.Bits.{none_shared, some_shared}
 use Rattle.policy.proofs.rows.shared.Goals as goal
 
-pub returns-then-a-b-eq0 : goal.returns-then-a-b-eq0
-returns-then-a-b-eq0 c = let a = c.args in off (λ s. none_shared a.a a.b c.if-a-b-eq0.true s.at (s.left, s.right)) refl
+by_test : (a b : ℕ) → a < 65536 → (t : Bool) → Tells (bit_and a b ≡ 0) t → Flags (Shared a b) (bool_byte (not t))
+by_test a b small true e = off (λ s. none_shared a b e s.at (s.left, s.right)) refl
+by_test a b small false d = on (some_shared a b d small) refl
 
-pub returns-else-a-b-eq0 : goal.returns-else-a-b-eq0
-returns-else-a-b-eq0 c = let a = c.args in on (some_shared a.a a.b c.if-a-b-eq0.false (omega arith)) refl
+pub returns : goal.returns
+returns c = rw c.from.ensures (by_test c.args.a c.args.b (omega arith) _ (tells_eq (bit_and c.args.a c.args.b) 0))

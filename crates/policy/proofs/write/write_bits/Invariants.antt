@@ -1,10 +1,6 @@
 -- The loop has decided the marks of the lowest k bits. Assumes nothing.
-use Prim.Native.Nat.{◌-◌, ◌≤◌}
 use Rattle.policy.proofs.Writings.{BitsWritten}
 use Rattle.policy.proofs.write.write_bits.Given as goal
 
 abbrev pub invariant-loop-k : goal.invariant-loop-k
-invariant-loop-k l = BitsWritten l.bits l.at l.k l.initial.out l.out × (l.k ≤ l.size)
-
-abbrev pub decreases-loop-k : goal.decreases-loop-k
-decreases-loop-k l = l.size - l.k
+invariant-loop-k l = BitsWritten l.bits l.at l.k l.initial.out l.out

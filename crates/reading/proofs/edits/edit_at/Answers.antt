@@ -1,15 +1,17 @@
 -- By the cases of the rule. Assumes nothing.
-use Prim.Native.Nat.{ℕ}
-use mathlib.Core.Path.{◌≡◌, sym, ap, subst, ◌∙◌}
-use mathlib.Core.List.{List}
-use native.Mathlib.Omega.{arith}
-use Rattle.table.specs.Rule.{kind_in, OfKind}
+use Rattle.std.proofs.Common.{ℕ, ◌<◌, List, ◌≡◌, sym, ap, subst, ◌∙◌, arith}
+use Rattle.table.specs.Words.{types}
+use Rattle.table.specs.Rule.{rule_at, kind_in, OfKind}
 use Rattle.table.specs.declared.rule.Rule.{Rule}
 use Rattle.table.proofs.Facts.{has_record, has_children}
 use Rattle.labels.specs.Steps.Booked.{label_in}
 use Rattle.reading.specs.Steps.Edits.{Kinds, StarRead, ChoiceRead}
-use Rattle.reading.proofs.Editing.{edit_empty, edit_sequence, edit_text, edit_star, edit_choice, kinds_at, star_low}
+use Rattle.reading.proofs.Editing.{edit_text, edit_no_text, edit_star, edit_choice, kinds_at, star_low}
 use Rattle.reading.proofs.edits.edit_at.Goals as goal
+
+-- the kind of the type is that of its rule
+of_kind : {ws : List ℕ} {x : ℕ} {r : Rule} (k : Rule) → x < types ws → rule_at ws x ≡ r → r ≡ k → OfKind ws x (kind_in k)
+of_kind k l e q = record { type = l; kind_is = ap kind_in (e ∙ q) }
 
 pub rule_at-requires : goal.rule_at-requires
 rule_at-requires c = let p = c.requires in has_record p.0.accepted p.1
@@ -28,31 +30,28 @@ pub child_at-requires : goal.child_at-requires
 child_at-requires c = let p = c.requires in has_children p.0.accepted p.1
 
 pub label-requires : goal.label-requires
-label-requires c = let kind : (r : Rule) → c.rule_at.result ≡ r → OfKind c.args.words.now c.args.x (kind_in r) = λ r e. record { type = c.requires.1; kind_is = ap kind_in (sym c.rule_at.ensures.is ∙ e) } in
-    let p = c.requires in
-    omega (arith, c.child_at.ensures, star_low p.0.accepted (kind _ c.in-Star.is))
+label-requires c = let p = c.requires in
+    omega (arith, c.child_at.ensures, star_low p.0.accepted (of_kind _ p.1 (sym c.rule_at.ensures.is) c.in-Star.is))
 
-pub returns-in-Empty : goal.returns-in-Empty
-returns-in-Empty c = let kind : (r : Rule) → c.rule_at.result ≡ r → OfKind c.args.words.now c.args.x (kind_in r) = λ r e. record { type = c.requires.1; kind_is = ap kind_in (sym c.rule_at.ensures.is ∙ e) } in
-    edit_empty (kind _ c.in-Empty.is)
+pub returns-in_err-end-in-Text : goal.returns-in_err-end-in-Text
+returns-in_err-end-in-Text c = let a = c.args in
+    rw c.from_residual.ensures
+    (edit_no_text (label_in a.names.now a.starts.now) a.l.now a.at (of_kind _ c.requires.1 (sym c.rule_at.ensures.is) c.in-Text.is) c.in_err-end-in-Text.ensures)
 
-pub returns-in-Text : goal.returns-in-Text
-returns-in-Text c = let kind : (r : Rule) → c.rule_at.result ≡ r → OfKind c.args.words.now c.args.x (kind_in r) = λ r e. record { type = c.requires.1; kind_is = ap kind_in (sym c.rule_at.ensures.is ∙ e) } in
-    edit_text (kind _ c.in-Text.is) c.requires.2 c.after.ensures
-
-pub returns-in-Sequence : goal.returns-in-Sequence
-returns-in-Sequence c = let kind : (r : Rule) → c.rule_at.result ≡ r → OfKind c.args.words.now c.args.x (kind_in r) = λ r e. record { type = c.requires.1; kind_is = ap kind_in (sym c.rule_at.ensures.is ∙ e) } in
-    edit_sequence (kind _ c.in-Sequence.is)
+pub returns-in_ok-end-in-Text : goal.returns-in_ok-end-in-Text
+returns-in_ok-end-in-Text c = let a = c.args in
+    edit_text (label_in a.names.now a.starts.now) a.l.now a.at (of_kind _ c.requires.1 (sym c.rule_at.ensures.is) c.in-Text.is) c.requires.2 c.in_ok-end-in-Text.ensures
 
 pub returns-in-Choice : goal.returns-in-Choice
-returns-in-Choice c = let kind : (r : Rule) → c.rule_at.result ≡ r → OfKind c.args.words.now c.args.x (kind_in r) = λ r e. record { type = c.requires.1; kind_is = ap kind_in (sym c.rule_at.ensures.is ∙ e) } in
-    let a = c.args in
-    edit_choice (kind _ c.in-Choice.is) c.numbers_at-n.ensures
-    (subst (λ (kids : List ℕ). ChoiceRead (label_in a.names.now a.starts.now) kids c.numbers_at-n.result a.l.now a.at c.choice_at.result.number c.choice_at.result.end) c.children.ensures c.choice_at.ensures)
+returns-in-Choice c = let a = c.args in
+    let label = label_in a.names.now a.starts.now in
+    let r = c.choice_at.result in
+    edit_choice label a.l.now a.at r (of_kind _ c.requires.1 (sym c.rule_at.ensures.is) c.in-Choice.is) c.numbers_at-n.ensures
+    (subst (λ (kids : List ℕ). ChoiceRead label kids c.numbers_at-n.result a.l.now a.at r) c.children.ensures c.choice_at.ensures)
 
 pub returns-in-Star : goal.returns-in-Star
-returns-in-Star c = let kind : (r : Rule) → c.rule_at.result ≡ r → OfKind c.args.words.now c.args.x (kind_in r) = λ r e. record { type = c.requires.1; kind_is = ap kind_in (sym c.rule_at.ensures.is ∙ e) } in
-    let a = c.args in
-    edit_star (kind _ c.in-Star.is) c.numbers_at-n.ensures
-    (subst (λ (child : List ℕ). StarRead c.numbers_at-n.result child a.l.now a.at c.star_at.result.number c.star_at.result.end)
-    (c.label.ensures ∙ ap (label_in a.names.now a.starts.now) c.child_at.ensures) c.star_at.ensures)
+returns-in-Star c = let a = c.args in
+    let label = label_in a.names.now a.starts.now in
+    let r = c.star_at.result in
+    edit_star label a.l.now a.at r (of_kind _ c.requires.1 (sym c.rule_at.ensures.is) c.in-Star.is) c.numbers_at-n.ensures
+    (subst (λ (child : List ℕ). StarRead c.numbers_at-n.result child a.l.now a.at r) (c.label.ensures ∙ ap label c.child_at.ensures) c.star_at.ensures)

@@ -1,5 +1,4 @@
 -- None of the labels passed stands there. Assumes nothing.
-use Prim.Native.Nat.{◌-◌}
 use Rattle.labels.specs.Steps.Booked.{label_in}
 use Rattle.reading.specs.Steps.Matching.{ended}
 use Rattle.reading.proofs.Standing.{Unsought}
@@ -7,6 +6,3 @@ use Rattle.reading.proofs.matching.find_between.Given as goal
 
 abbrev pub invariant-loop-x : goal.invariant-loop-x
 invariant-loop-x loop = Unsought (λ k. ended (label_in loop.names loop.starts k) 32) loop.l loop.at loop.from loop.x
-
-abbrev pub decreases-loop-x : goal.decreases-loop-x
-decreases-loop-x l = l.to - l.x

@@ -1,6 +1,5 @@
 -- None of the labels passed stands there. Assumes nothing.
-use Prim.Native.Nat.{◌-◌}
-use lib.ListN.{get_or}
+use Rattle.std.proofs.Common.{get_or}
 use Rattle.labels.specs.Steps.Booked.{label_in}
 use Rattle.reading.specs.Steps.Matching.{ended}
 use Rattle.reading.proofs.Standing.{Unsought}
@@ -8,6 +7,3 @@ use Rattle.reading.proofs.matching.find_kid.Given as goal
 
 abbrev pub invariant-loop-k : goal.invariant-loop-k
 invariant-loop-k loop = Unsought (λ z. ended (label_in loop.names loop.starts (get_or loop.kids z 0)) loop.stop) loop.l loop.at 0 loop.k
-
-abbrev pub decreases-loop-k : goal.decreases-loop-k
-decreases-loop-k l = l.n - l.k

@@ -2,11 +2,11 @@
 use Rattle.reading.proofs.Signs.{sign_plus, sign_minus, sign_none}
 use Rattle.reading.proofs.matching.sign_at.Goals as goal
 
-pub returns-then-after-ne0 : goal.returns-then-after-ne0
-returns-then-after-ne0 c = sign_plus c.after.ensures c.if-after-ne0.true
+pub returns-then-is_some : goal.returns-then-is_some
+returns-then-is_some c = sign_plus c.after.result c.if-is_some.ensures c.after.ensures
 
-pub returns-then-after-ne0-2 : goal.returns-then-after-ne0-2
-returns-then-after-ne0-2 c = sign_minus c.after-2.ensures c.if-after-ne0-2.true
+pub returns-then-is_some-2 : goal.returns-then-is_some-2
+returns-then-is_some-2 c = sign_minus c.after-else-is_some.result c.if-is_some-2.ensures c.after-else-is_some.ensures
 
-pub returns : goal.returns
-returns c = sign_none c.after.ensures c.if-after-ne0.false c.after-2.ensures c.if-after-ne0-2.false
+pub returns-else-is_some-2 : goal.returns-else-is_some-2
+returns-else-is_some-2 c = sign_none c.after.result c.after-else-is_some.result c.if-is_some.ensures c.if-is_some-2.ensures c.after.ensures c.after-else-is_some.ensures

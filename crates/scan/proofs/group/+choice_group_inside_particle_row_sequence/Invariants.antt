@@ -21,8 +21,8 @@ decreases-row l = 5 * (length l.s.now - l.at) + 1
 abbrev pub decreases-sequence : goal.decreases-sequence
 decreases-sequence l = 5 * (length l.s.now - l.at) + 2
 
-abbrev pub invariant-row-loop-r : goal.invariant-row-loop-r
-invariant-row-loop-r l = (l.at ≤ l.i) × (l.i ≤ length l.s) × ((fs : List Frame) → Moves (Closing l.separator l.depth (RestMarked fs)) (Closing l.separator l.depth (RestMarked fs)) l.s l.at l.i)
+abbrev pub invariant-row-loop-i : goal.invariant-row-loop-i
+invariant-row-loop-i l = (l.at ≤ l.i) × (l.i ≤ length l.s) × ((fs : List Frame) → Moves (Closing l.separator l.depth (RestMarked fs)) (Closing l.separator l.depth (RestMarked fs)) l.s l.at l.i)
 
-abbrev pub decreases-row-loop-r : goal.decreases-row-loop-r
-decreases-row-loop-r l = length l.s - l.i
+abbrev pub decreases-row-loop-i : goal.decreases-row-loop-i
+decreases-row-loop-i l = length l.s - l.i

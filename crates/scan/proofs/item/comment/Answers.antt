@@ -1,16 +1,12 @@
-use mathlib.Core.Bool.{true}
+-- The two dashes, then the rest.
+use Rattle.std.proofs.Common.{Ok, Err}
 use Rattle.scan.proofs.Moving.{reads_on}
-use Rattle.scan.proofs.Readings.{reads_at, reads_other}
+use Rattle.scan.proofs.Readings.{reads_moves, reads_refused}
 use Rattle.scan.proofs.Declared.{dashes_read}
 use Rattle.scan.proofs.item.comment.Goals as goal
 
--- src/item.rt:182:9
-pub remark-requires : goal.remark-requires
-remark-requires c = (reads_at c.in-At.is (dashes_read true _ c.word-r.ensures)).inside
-
--- src/item.rt:182:9
-pub returns-in-At : goal.returns-in-At
-returns-in-At c = λ seen. (reads_on (reads_at c.in-At.is (dashes_read seen _ c.word-r.ensures)) (c.remark.ensures seen))
+pub returns-in_err-e : goal.returns-in_err-e
+returns-in_err-e c = λ seen. reads_refused c.from_residual.result c.from_residual.ensures.1 (dashes_read seen (Err _) c.in_err-e.ensures)
 
 pub returns : goal.returns
-returns c = λ seen. reads_other c.in_default.not-At (dashes_read seen _ c.word-r.ensures)
+returns c = λ seen. reads_on (reads_moves (dashes_read seen (Ok _) c.in_ok-e.ensures)) (c.remark.ensures seen)

@@ -1,15 +1,12 @@
+-- The name, then the rest.
+use Rattle.std.proofs.Common.{Ok, Err}
 use Rattle.scan.proofs.Moving.{reads_on}
-use Rattle.scan.proofs.Readings.{reads_at, reads_other}
+use Rattle.scan.proofs.Readings.{reads_moves, reads_refused}
 use Rattle.scan.proofs.Declared.{declared_name}
 use Rattle.scan.proofs.item.from_name.Goals as goal
 
--- src/item.rt:123:9
-pub from_named-requires : goal.from_named-requires
-from_named-requires c = (reads_at c.in-At.is (declared_name c.requires _ c.name-r.ensures)).inside
-
--- src/item.rt:123:9
-pub returns-in-At : goal.returns-in-At
-returns-in-At c = reads_on (reads_at c.in-At.is (declared_name c.requires _ c.name-r.ensures)) c.from_named.ensures
+pub returns-in_err-e : goal.returns-in_err-e
+returns-in_err-e c = reads_refused c.from_residual.result c.from_residual.ensures.1 (declared_name c.requires (Err _) c.in_err-e.ensures)
 
 pub returns : goal.returns
-returns c = reads_other c.in_default.not-At (declared_name c.requires _ c.name-r.ensures)
+returns c = reads_on (reads_moves (declared_name c.requires (Ok _) c.in_ok-e.ensures)) c.from_named.ensures

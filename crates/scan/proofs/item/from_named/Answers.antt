@@ -1,15 +1,12 @@
+-- White space behind the name, then the rest.
+use Rattle.std.proofs.Common.{Ok, Err}
 use Rattle.scan.proofs.Moving.{reads_on}
-use Rattle.scan.proofs.Readings.{reads_at, reads_other}
+use Rattle.scan.proofs.Readings.{reads_moves, reads_refused}
 use Rattle.scan.proofs.Declared.{named_space}
 use Rattle.scan.proofs.item.from_named.Goals as goal
 
--- src/item.rt:111:9
-pub from_content-requires : goal.from_content-requires
-from_content-requires c = (reads_at c.in-At.is (named_space c.requires _ c.space-r.ensures)).inside
-
--- src/item.rt:111:9
-pub returns-in-At : goal.returns-in-At
-returns-in-At c = reads_on (reads_at c.in-At.is (named_space c.requires _ c.space-r.ensures)) c.from_content.ensures
+pub returns-in_err-e : goal.returns-in_err-e
+returns-in_err-e c = reads_refused c.from_residual.result c.from_residual.ensures.1 (named_space c.requires (Err _) c.in_err-e.ensures)
 
 pub returns : goal.returns
-returns c = reads_other c.in_default.not-At (named_space c.requires _ c.space-r.ensures)
+returns c = reads_on (reads_moves (named_space c.requires (Ok _) c.in_ok-e.ensures)) c.from_content.ensures

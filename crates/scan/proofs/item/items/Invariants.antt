@@ -1,6 +1,5 @@
-use Prim.Native.Nat.{◌-◌, ◌≤◌}
-use mathlib.Core.Bool.{false}
-use lib.ListN.{length}
+-- The items up to the place are read.
+use Rattle.std.proofs.Common.{false, ◌-◌, ◌≤◌, length}
 use Rattle.scan.specs.Steps.Claims.{FromItems}
 use Rattle.scan.specs.Steps.Moves.{Moves}
 use Rattle.scan.proofs.item.items.Given as goal

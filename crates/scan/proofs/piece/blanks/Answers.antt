@@ -1,29 +1,11 @@
-use native.Mathlib.Omega.{arith}
-use native.Mathlib.Numerals.{add-one}
+-- One byte of white space more.
+use Rattle.std.proofs.Common.{add-one}
 use Rattle.grammar.specs.Bytes.{stop}
-use Rattle.scan.proofs.Told.{yes_told, no_told, span_more}
+use Rattle.scan.proofs.Told.{span_more}
 use Rattle.scan.proofs.piece.blanks.Goals as goal
 
--- src/piece.rt:18:5
 pub loop-i-init : goal.loop-i-init
-loop-i-init c = (omega arith, stop)
+loop-i-init c = stop
 
--- src/piece.rt:18:11
-pub is_of-requires : goal.is_of-requires
-is_of-requires c = tt
-
--- src/piece.rt:19:9
-pub overflow_add-i : goal.overflow_add-i
-overflow_add-i c = let o = yes_told c.is_of.ensures c.loop-i-test.true in omega (arith, o.within)
-
--- src/piece.rt:18:5
-pub loop-i-smaller : goal.loop-i-smaller
-loop-i-smaller c = let o = yes_told c.is_of.ensures c.loop-i-test.true in omega (arith, o.within)
-
--- src/piece.rt:18:5
 pub loop-i-preserved : goal.loop-i-preserved
-loop-i-preserved c = let o = yes_told c.is_of.ensures c.loop-i-test.true in (omega (arith, o.within), rw (add-one c.loop-i.i) (span_more c.loop-i.invariant.1 o))
-
--- src/piece.rt:13:1
-pub returns : goal.returns
-returns c = record { inside = c.loop-i.invariant.0; blanks = c.loop-i.invariant.1; over = no_told c.is_of.ensures c.loop-i-test.false }
+loop-i-preserved c = rw (add-one c.loop-i.i) (span_more c.loop-i.invariant c.if-not-is_of.ensures)

@@ -1,12 +1,8 @@
-use Prim.Native.Nat.{◌+◌, ◌-◌, ◌≤◌}
-use mathlib.Core.Path.{◌≡◌}
-use lib.ListN.{length, drop}
-use Rattle.scan.specs.declared.Step.{Step}
+-- Bytes of the word that stand there.
+use Rattle.std.proofs.Common.{◌≡◌, ℕ, ◌+◌, ◌≤◌, length, drop, Result}
+use Rattle.scan.specs.declared.Stop.{Stop}
 use Rattle.scan.specs.Steps.Readers.{WordRead}
 use Rattle.scan.proofs.piece.word.Given as goal
 
-abbrev pub invariant-loop-k : goal.invariant-loop-k
-invariant-loop-k l = (l.i ≡ l.at + l.k) × (l.i ≤ length l.s) × (l.k ≤ length l.w) × ((r : Step) → WordRead l.s (drop l.k l.w) l.i r → WordRead l.s l.w l.at r)
-
-abbrev pub decreases-loop-k : goal.decreases-loop-k
-decreases-loop-k l = length l.w - l.k
+abbrev pub invariant-loop-b : goal.invariant-loop-b
+invariant-loop-b l = (l.i ≡ l.at + l.b-index) × (l.i ≤ length l.s) × ((r : Result ℕ Stop) → WordRead l.s (drop l.b-index l.w) l.i r → WordRead l.s l.w l.at r)

@@ -1,11 +1,6 @@
 -- The loop has marked the kids passed. Assumes nothing.
 use Rattle.table.proofs.Marks.{AddedSoFar}
-use lib.ListN.{length}
-use Prim.Native.Nat.{◌-◌}
 use Rattle.table.proofs.below.add_kids.Given as goal
 
-abbrev pub invariant-loop-i : goal.invariant-loop-i
-invariant-loop-i l = AddedSoFar l.kids l.i l.initial.marks l.initial.order l.listed l.marks l.order l.n
-
-abbrev pub decreases-loop-i : goal.decreases-loop-i
-decreases-loop-i l = length l.kids - l.i
+abbrev pub invariant-loop-kid : goal.invariant-loop-kid
+invariant-loop-kid l = AddedSoFar l.kids l.kid-index l.initial.marks l.initial.order l.listed l.marks l.order l.n

@@ -1,6 +1,6 @@
 -- The loop passes the types listed, one after another. Assumes nothing.
+use Rattle.std.proofs.Common.{◌-◌}
 use Rattle.table.proofs.Marks.{Marking}
-use Prim.Native.Nat.{◌-◌}
 use Rattle.table.proofs.below.mark_below.Given as goal
 
 abbrev pub invariant-loop-head : goal.invariant-loop-head

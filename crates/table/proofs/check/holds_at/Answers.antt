@@ -1,17 +1,12 @@
 -- By the cases of the check, each from what its own function tells. Assumes nothing.
-use Rattle.table.proofs.Lowest.{tells_le, tells_not}
+use Rattle.std.proofs.Common.{ℕ, ◌<◌, List, arith}
 use Rattle.table.proofs.Children.{tiled, childed, laid_record, tiled_children}
 use Rattle.table.specs.Words.{types}
 use Rattle.table.specs.Steps.Reading.{HasChildren}
-use Rattle.table.specs.Below.{OnCycle}
 use Rattle.table.specs.Check.{Laid, rank_of}
 use Rattle.table.specs.Steps.Flags.{Asked}
 use Rattle.table.specs.declared.check.Check.{Check}
 use Rattle.table.specs.declared.check.Check.TheVariants.{Layout, Bounds, Twice, Cycle}
-use Prim.Native.Nat.{ℕ, ◌<◌}
-use mathlib.Core.List.{List}
-use mathlib.Core.Path.{refl}
-use native.Mathlib.Omega.{arith}
 use Rattle.table.proofs.check.holds_at.Goals as goal
 
 -- a check behind the second looks at a run that is laid out as a table, and one behind the fifth at one whose children are all there
@@ -55,34 +50,3 @@ bounds-reached-p c = let known = rw c.in-Unreached.is at c.requires in
 
 pub is_counted-requires : goal.is_counted-requires
 is_counted-requires c = laid (omega arith) (rw c.in-Total.is at c.requires)
-
-pub returns-in-Format : goal.returns-in-Format
-returns-in-Format c = rw c.in-Format.is c.is_headed.ensures
-
-pub returns-in-Layout : goal.returns-in-Layout
-returns-in-Layout c = rw c.in-Layout.is c.is_laid.ensures
-
-pub returns-in-Kind : goal.returns-in-Kind
-returns-in-Kind c = rw (c.in-Kind.is, ← c.record_word.ensures.is) (tells_le c.record_word.result 4)
-
-pub returns-in-Count : goal.returns-in-Count
-returns-in-Count c = rw (c.in-Count.is, ← c.record_word-in-Count.ensures.is, ← c.record_word-in-Count-2.ensures.is) c.right_count.ensures
-
-pub returns-in-Stretch : goal.returns-in-Stretch
-returns-in-Stretch c = rw c.in-Stretch.is c.follows.ensures
-
-pub returns-in-Bounds : goal.returns-in-Bounds
-returns-in-Bounds c = rw (c.in-Bounds.is, ← c.children.ensures, ← c.types.ensures.is) c.inside.ensures
-
-pub returns-in-Twice : goal.returns-in-Twice
-returns-in-Twice c = rw (c.in-Twice.is, ← c.children-in-Twice.ensures) c.differ.ensures
-
-pub returns-in-Cycle : goal.returns-in-Cycle
-returns-in-Cycle c = rw c.in-Cycle.is (tells_not (OnCycle c.args.words.now c.args.p) c.is_on_cycle.result c.is_on_cycle.ensures)
-
-pub returns-in-Unreached : goal.returns-in-Unreached
-returns-in-Unreached c = let known = rw c.in-Unreached.is at c.requires in
-    rw c.in-Unreached.is (known.marked refl c.args.p known.within)
-
-pub returns-in-Total : goal.returns-in-Total
-returns-in-Total c = rw c.in-Total.is c.is_counted.ensures

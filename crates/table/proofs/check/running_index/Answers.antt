@@ -1,9 +1,7 @@
 -- The children of the type before follow on, and end where those of t begin. Assumes nothing.
+use Rattle.std.proofs.Common.{◌≡◌, ◌+◌, ◌-◌, arith}
 use Rattle.table.proofs.Checks.{running_next}
 use Rattle.table.specs.Sum.{sum_below}
-use mathlib.Core.Path.{◌≡◌}
-use Prim.Native.Nat.{◌+◌, ◌-◌}
-use native.Mathlib.Omega.{arith}
 use Rattle.table.proofs.check.running_index.Goals as goal
 
 pub returns-then-t-eq0 : goal.returns-then-t-eq0

@@ -1,5 +1,5 @@
 -- An accepted table has the order. Assumes nothing.
-use mathlib.Core.Path.{refl}
+use Rattle.std.proofs.Common.{refl}
 use Rattle.table.proofs.Facts.{accepted_childed, accepted_ordered}
 use Rattle.table.proofs.Rooted.{ordered_up}
 use Rattle.table.proofs.order.bottom_up.Goals as goal

@@ -1,46 +1,38 @@
 -- The loop has counted the entries passed. Assumes nothing.
+use Rattle.std.proofs.Common.{◌≡◌, ℕ, ◌<◌, List, length, get_or, refl, ◌∙◌, arith}
+use Rattle.table.specs.Steps.Childed.{Childed}
+use Rattle.table.specs.Steps.Reading.{child_list}
 use Rattle.table.proofs.Children.{entries_all}
 use Rattle.table.proofs.Entries.{count_start, count_more, entry_inside, read_list, entries_sum}
 use Rattle.table.proofs.Sums.{occurs_few}
-use Rattle.table.specs.Steps.Reading.{child_list}
-use native.Mathlib.Omega.{arith}
-use lib.ListN.{length, get_or}
-use mathlib.Core.Path.{◌≡◌, refl, ◌∙◌}
-use Prim.Native.Nat.{◌<◌}
 use Rattle.table.proofs.order.count_parents.Goals as goal
 
-pub loop-i-init : goal.loop-i-init
-loop-i-init c = rw c.requires.1 (count_start _)
+-- an entry of the list that was read is a type
+entry_low : {ws list : List ℕ} {i child : ℕ} → Childed ws → list ≡ child_list ws → i < length list → child ≡ get_or list i 0 → child < 256
+entry_low {i = i} g l h e = omega (arith, g.tiled.laid.few, e, rw (← l) at (entry_inside g i (rw (← l) h)))
 
-pub offset_bounds-counts-child : goal.offset_bounds-counts-child
-offset_bounds-counts-child c = let is_list : c.stretch-list.result.now ≡ child_list c.args.words.now = read_list c.args.words.now c.types.ensures.is c.entries.ensures.is refl c.stretch-list.ensures in
-    let low : c.word_at-child.result < 256 = let l = is_list in let g = c.requires.0 in omega (arith, g.tiled.laid.few, c.word_at-child.ensures.is, rw (← l) at (entry_inside g c.loop-i.i (rw (← l) c.loop-i-test.true))) in
-    omega (arith, low)
+pub loop-child-init : goal.loop-child-init
+loop-child-init c = rw c.requires.1 (count_start _)
 
-pub bounds-counts-child : goal.bounds-counts-child
-bounds-counts-child c = let is_list : c.stretch-list.result.now ≡ child_list c.args.words.now = read_list c.args.words.now c.types.ensures.is c.entries.ensures.is refl c.stretch-list.ensures in
-    let low : c.word_at-child.result < 256 = let l = is_list in let g = c.requires.0 in omega (arith, g.tiled.laid.few, c.word_at-child.ensures.is, rw (← l) at (entry_inside g c.loop-i.i (rw (← l) c.loop-i-test.true))) in
-    low
+pub bounds-counts-from : goal.bounds-counts-from
+bounds-counts-from c = entry_low c.requires.0 (read_list c.args.words.now c.types.ensures.is c.entries.ensures.is refl c.stretch-list.ensures) c.loop-child-test.true c.from.ensures
 
 pub overflow_add-counts : goal.overflow_add-counts
-overflow_add-counts c = let is_list : c.stretch-list.result.now ≡ child_list c.args.words.now = read_list c.args.words.now c.types.ensures.is c.entries.ensures.is refl c.stretch-list.ensures in
-    let low : c.word_at-child.result < 256 = let l = is_list in let g = c.requires.0 in omega (arith, g.tiled.laid.few, c.word_at-child.ensures.is, rw (← l) at (entry_inside g c.loop-i.i (rw (← l) c.loop-i-test.true))) in
-    let room : get_or c.loop-i.counts c.word_at-child.result 0 < 1024 = let l = is_list in let g = c.requires.0 in omega (arith, c.loop-i.invariant.each _ low, occurs_few c.stretch-list.result.now c.word_at-child.result c.loop-i.i, c.loop-i-test.true, g.tiled.laid.short, rw (← l) at (entries_all g.tiled)) in
-    omega (arith, room)
+overflow_add-counts c =
+    let l = read_list c.args.words.now c.types.ensures.is c.entries.ensures.is refl c.stretch-list.ensures in
+    let low : c.from.result < 256 = entry_low c.requires.0 l c.loop-child-test.true c.from.ensures in
+    omega (arith, c.loop-child.invariant.each _ low, occurs_few c.stretch-list.result.now c.from.result c.loop-child.child-index, c.requires.0.tiled.laid.short, rw (← l) at (entries_all c.requires.0.tiled))
 
-pub bounds-counts-child-in-loop-i : goal.bounds-counts-child-in-loop-i
-bounds-counts-child-in-loop-i c = let is_list : c.stretch-list.result.now ≡ child_list c.args.words.now = read_list c.args.words.now c.types.ensures.is c.entries.ensures.is refl c.stretch-list.ensures in
-    let low : c.word_at-child.result < 256 = let l = is_list in let g = c.requires.0 in omega (arith, g.tiled.laid.few, c.word_at-child.ensures.is, rw (← l) at (entry_inside g c.loop-i.i (rw (← l) c.loop-i-test.true))) in
-    low
+pub bounds-counts-from-in-loop-child : goal.bounds-counts-from-in-loop-child
+bounds-counts-from-in-loop-child c = entry_low c.requires.0 (read_list c.args.words.now c.types.ensures.is c.entries.ensures.is refl c.stretch-list.ensures) c.loop-child-test.true c.from.ensures
 
-pub loop-i-preserved : goal.loop-i-preserved
-loop-i-preserved c = let is_list : c.stretch-list.result.now ≡ child_list c.args.words.now = read_list c.args.words.now c.types.ensures.is c.entries.ensures.is refl c.stretch-list.ensures in
-    let low : c.word_at-child.result < 256 = let l = is_list in let g = c.requires.0 in omega (arith, g.tiled.laid.few, c.word_at-child.ensures.is, rw (← l) at (entry_inside g c.loop-i.i (rw (← l) c.loop-i-test.true))) in
-    count_more c.loop-i.invariant c.loop-i-test.true c.word_at-child.result c.word_at-child.ensures.is low
+pub loop-child-preserved : goal.loop-child-preserved
+loop-child-preserved c =
+    let l = read_list c.args.words.now c.types.ensures.is c.entries.ensures.is refl c.stretch-list.ensures in
+    count_more c.loop-child.invariant c.loop-child-test.true c.from.result c.from.ensures (entry_low c.requires.0 l c.loop-child-test.true c.from.ensures)
 
 pub returns : goal.returns
-returns c = let is_list : c.stretch-list.result.now ≡ child_list c.args.words.now = read_list c.args.words.now c.types.ensures.is c.entries.ensures.is refl c.stretch-list.ensures in
-    let l = is_list in
-    let g = c.requires.0 in
-    let all : length c.stretch-list.result.now ≡ c.loop-i.i = omega (arith, c.loop-i.invariant.within, c.loop-i-test.false) in
-    record { size = c.loop-i.invariant.size; each = λ x h. c.loop-i.invariant.each x (omega (arith, g.tiled.laid.few)) ∙ rw (← all, l) (entries_sum g x) }
+returns c =
+    let l = read_list c.args.words.now c.types.ensures.is c.entries.ensures.is refl c.stretch-list.ensures in
+    let all : length c.stretch-list.result.now ≡ c.loop-child.child-index = omega arith in
+    record { size = c.loop-child.invariant.size; each = λ x h. c.loop-child.invariant.each x (omega arith) ∙ rw (← all, l) (entries_sum c.requires.0 x) }

@@ -1,15 +1,11 @@
 -- Read off the record and the format; an accepted table keeps the numbers small. Assumes nothing.
+use Rattle.std.proofs.Common.{sym, ◌∙◌, arith}
 use Rattle.table.proofs.Facts.{facts, has_record, count_recorded}
 use Rattle.table.proofs.Privileges.{first_within}
-use mathlib.Core.Path.{sym, ◌∙◌}
-use native.Mathlib.Omega.{arith}
 use Rattle.table.proofs.privilege.numbers_at.Goals as goal
 
 pub record_word-requires : goal.record_word-requires
 record_word-requires c = let p = c.requires in (has_record p.0 p.1, omega arith)
-
-pub gap_of-requires : goal.gap_of-requires
-gap_of-requires c = let p = c.requires in omega (arith, has_record p.0 p.1)
 
 pub returns : goal.returns
 returns c = let a = c.args in

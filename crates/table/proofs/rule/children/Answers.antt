@@ -1,6 +1,6 @@
 -- The stretch that the record says, which stands in the run. Assumes nothing.
+use Rattle.std.proofs.Common.{sym}
 use native.Mathlib.Nat.{add-sub_cancel_left}
-use mathlib.Core.Path.{sym}
 use Rattle.table.proofs.Children.{children_counted}
 use Rattle.table.proofs.rule.children.Goals as goal
 

@@ -1,25 +1,26 @@
 -- The loop has counted the forbidden privileges passed. Assumes nothing.
-use borrow.Author.Rules.{rules}
-use mathlib.Core.Path.{◌≡◌, subst}
-use native.Mathlib.Omega.{arith}
-use Prim.Native.Nat.{ℕ}
-use Rattle.table.specs.HowMany.{HowMany}
+use Rattle.std.proofs.Common.{◌≡◌, ◌+◌, ◌-◌, ◌<◌, get_or, take, drop, get_or-take, get_or-drop, length-take-le, length-drop, ◌∙◌, sym, add-zero, add_assoc, arith}
 use Rattle.table.proofs.HowMany.{many_next, many_skip}
-use Rattle.verdict.specs.Steps.Spoils.{Range}
 use Rattle.verdict.proofs.Tallies.{range_start}
 use Rattle.verdict.proofs.below.count_forbidden.Goals as goal
-use Rattle.verdict.proofs.below.count_forbidden.Goals.{then-marks-p-eq2, else-marks-p-eq2}
+use Rattle.verdict.proofs.below.count_forbidden.Goals.{then-mark-eq2, else-mark-eq2}
 
-pub loop-p-init : goal.loop-p-init
-loop-p-init c = (search rules, search rules, search rules, range_start)
+pub loop-mark-init : goal.loop-mark-init
+loop-mark-init c = (omega arith, rw add-zero range_start)
 
-pub loop-p-preserved : goal.loop-p-preserved
-loop-p-preserved c = let l = c.loop-p-test.true in
-    elim c.if-marks-p-eq2.branch [
-      | then-marks-p-eq2 w ↦ (search rules, search rules, omega (arith, w.count-is, c.loop-p.invariant.2), rw w.count-is (many_next c.loop-p.invariant.3 (record { low = c.loop-p.invariant.0; high = l; forbidden = w.if-marks-p-eq2.true })))
-      | else-marks-p-eq2 w ↦ (search rules, search rules, omega (arith, w.count-is, c.loop-p.invariant.2), rw w.count-is (many_skip c.loop-p.invariant.3 (λ r. w.if-marks-p-eq2.false r.forbidden)))
+pub loop-mark-preserved : goal.loop-mark-preserved
+loop-mark-preserved c = let marks = c.args.marks.now in
+    let from = c.args.from in
+    let k = c.loop-mark.mark-index in
+    let inside : k < c.args.until - from = omega (arith, c.loop-mark-test.true, length-take-le (c.args.until - from) (drop from marks) (omega (arith, length-drop from marks))) in
+    let read : get_or (take (c.args.until - from) (drop from marks)) k 0 ≡ get_or marks (from + k) 0 = get_or-take (c.args.until - from) (drop from marks) k 0 inside ∙ get_or-drop from marks k 0 in
+    elim c.if-mark-eq2.branch [
+      | then-mark-eq2 w ↦ (
+        omega (arith, w.count-is),
+        rw (w.count-is, ← add_assoc from k 1) (many_next c.loop-mark.invariant.1 (record { low = omega arith; high = omega arith; forbidden = sym read ∙ w.if-mark-eq2.true })),
+      )
+      | else-mark-eq2 w ↦ (
+        omega (arith, w.count-is),
+        rw (w.count-is, ← add_assoc from k 1) (many_skip c.loop-mark.invariant.1 (λ r. w.if-mark-eq2.false (read ∙ r.forbidden))),
+      )
     ]
-
-pub returns : goal.returns
-returns c = let end : c.loop-p.p ≡ c.args.until = omega (arith, c.loop-p.invariant.1, c.loop-p-test.false) in
-    subst (λ (p : ℕ). HowMany (Range c.args.marks.now c.args.from c.args.until) p c.loop-p.count) end c.loop-p.invariant.3

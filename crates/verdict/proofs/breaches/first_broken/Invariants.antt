@@ -1,18 +1,12 @@
 -- The outer loop has passed the rows before i, the inner one the columns before j. Assumes nothing.
 use Rattle.verdict.specs.Steps.Visits.{Broken}
-use Rattle.verdict.specs.declared.breaches.Pair.TheVariants.{Nothing}
+use Rattle.std.proofs.Common.{None}
 use mathlib.Core.Path.{◌≡◌}
-use Prim.Native.Nat.{ℕ, ◌-◌, ◌≤◌, ◌<◌}
+use Prim.Native.Nat.{ℕ, ◌≤◌, ◌<◌}
 use Rattle.verdict.proofs.breaches.first_broken.Given as goal
 
 abbrev pub invariant-loop-j : goal.invariant-loop-j
-invariant-loop-j l = (l.i < l.count) × (l.count ≡ l.n.count) × (l.j ≤ l.count) × (l.found ≡ Nothing) × ((a : ℕ) → a < l.i → (b : ℕ) → b < l.count → ¬ Broken l.marks l.n l.square a b) × ((b : ℕ) → b < l.j → ¬ Broken l.marks l.n l.square l.i b)
-
-abbrev pub decreases-loop-j : goal.decreases-loop-j
-decreases-loop-j l = l.count - l.j
+invariant-loop-j l = (l.i < l.count) × (l.count ≡ l.n.count) × (l.j ≤ l.count) × (l.found ≡ None) × ((a : ℕ) → a < l.i → (b : ℕ) → b < l.count → ¬ Broken l.marks l.n l.square a b) × ((b : ℕ) → b < l.j → ¬ Broken l.marks l.n l.square l.i b)
 
 abbrev pub invariant-search : goal.invariant-search
-invariant-search l = (l.i ≤ l.count) × (l.count ≡ l.n.count) × (l.found ≡ Nothing) × ((a : ℕ) → a < l.i → (b : ℕ) → b < l.count → ¬ Broken l.marks l.n l.square a b)
-
-abbrev pub decreases-search : goal.decreases-search
-decreases-search l = l.count - l.i
+invariant-search l = (l.i ≤ l.count) × (l.count ≡ l.n.count) × (l.found ≡ None) × ((a : ℕ) → a < l.i → (b : ℕ) → b < l.count → ¬ Broken l.marks l.n l.square a b)

@@ -1,2 +1,0 @@
--- Laws of the bytes.
-pub mod Packing
