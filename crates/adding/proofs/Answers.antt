@@ -1,10 +1,5 @@
 -- Adding two sheets has one outcome: the sum, and what the counts hold. Assumes nothing.
-use Prim.Native.Nat.{ℕ, ◌*◌, ◌<◌}
-use mathlib.Core.Path.{◌≡◌, sym, ◌∙◌}
-use mathlib.Core.Logic.{◌≢◌}
-use mathlib.Core.List.{List}
-use native.Mathlib.Omega.{arith}
-use lib.ListN.{get_or}
+use Rattle.std.proofs.Common.{ℕ, ◌*◌, ◌<◌, ◌≡◌, sym, ◌∙◌, ◌≢◌, List, arith, get_or}
 use Rattle.table.specs.Privilege.{privileges}
 use Rattle.table.proofs.Answers.{answer_one, accepted_answer, lowest_one}
 use Rattle.leaders.proofs.Leading.{leaders_one, leaders_as}

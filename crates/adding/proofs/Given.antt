@@ -1,11 +1,5 @@
 -- Two sheets that can be added, and their sum as it is answered. Assumes nothing.
-use Prim.Native.Nat.{ℕ, ◌*◌, ◌/◌}
-use mathlib.Core.Path.{◌≡◌, refl}
-use mathlib.Core.Logic.{◌≢◌}
-use mathlib.Core.List.{List}
-use native.Mathlib.Omega.{arith}
-use lib.ListN.{length, take}
-use lib.Seq.{length-take-le, get_or-take}
+use Rattle.std.proofs.Common.{ℕ, ◌*◌, ◌/◌, ◌≡◌, refl, ◌≢◌, List, arith, length, take, length-take-le, get_or-take}
 use Rattle.table.specs.Privilege.{privileges}
 use Rattle.leaders.specs.Leaders.{LeadersOf, often_of}
 use Rattle.leaders.specs.declared.Leaders.{Leaders}

@@ -16,7 +16,7 @@ use table::{Checked, Found, check_table};
 fn is_held(a: u32, b: u32) -> bool
     ensures { Tells (Held (a + b)) result }
 {
-    a <= 4294967295 - b
+    a <= u32::MAX - b
 }
 
 // Do they hold the sums of privilege p's three numbers?
@@ -35,12 +35,10 @@ fn lowest_over(counts: &[u32], more: &[u32], v: usize) -> Found
     requires { Whole v counts.now more.now }
     ensures { Lowest (CountsHeld counts.now more.now) v result }
 {
-    let mut p = 0;
-    while p < v {
+    for p in 0..v {
         if !counts_held(counts, more, p) {
             return Found::At(p);
         }
-        p += 1;
     }
     Found::Nothing
 }
@@ -59,10 +57,7 @@ fn figures_held(f: Figures, g: Figures) -> bool
 fn told(number: u8, place: usize) -> Checked
     ensures { (result.number ≡ number) × (result.place ≡ place) }
 {
-    Checked {
-        number: number,
-        place: place,
-    }
+    Checked { number, place }
 }
 
 // Can the sheets be added? 0 and V, or why they cannot be: 1 to 9, 12, 19, 29 or 30.
@@ -121,11 +116,8 @@ fn add_counts(counts: &mut [u32], more: &[u32], v: usize)
     requires { Whole v counts.old more.now × ((p : ℕ) → p < v → CountsHeld counts.old more.now p) }
     ensures { CountsAdded v counts.old more.now counts.new }
 {
-    let n = 3 * v;
-    let mut a = 0;
-    while a < n {
+    for a in 0..3 * v {
         counts[a] += more[a];
-        a += 1;
     }
 }
 

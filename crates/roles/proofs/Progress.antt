@@ -1,10 +1,10 @@
 -- The roles one after another: what is done when the first n are. Assumes nothing.
-use Rattle.std.proofs.Common.{ℕ, ◌+◌, ◌-◌, ◌*◌, ◌≤◌, ◌<◌, ◌≡◌, refl, sym, ap, ◌∙◌, List, arith, length, get_or, set, take, drop, length-set, drop-drop}
+use Rattle.std.proofs.Common.{ℕ, ◌+◌, ◌-◌, ◌*◌, ◌≤◌, ◌<◌, ◌≡◌, sym, ap, ◌∙◌, List, arith, length, get_or, set, take, drop, length-set, drop-drop}
 use borrow.Rule.Slice.PartMut.{put_mid, mid_of, same_len_mid, mid_len}
 use Rattle.table.specs.Privilege.{privileges}
 use Rattle.table.proofs.Lists.{fill_more}
 use Rattle.policy.specs.Roles.{stretch}
-use Rattle.roles.specs.Answers.{RoleAnswer, RolesCompleted}
+use Rattle.roles.specs.Answers.{RoleAnswer}
 use Rattle.policy.proofs.Stretches.{stretch_end, stretch_within, part_before, put_before, put_here, put_after}
 
 -- the first n roles have their numbers and their stretches, and from there on the result is as it was
@@ -15,13 +15,6 @@ pub record Upto (ws marks numbers out : List ℕ) (n : ℕ) (numbers_after after
   pub rest : drop (n * privileges ws) after ≡ drop (n * privileges ws) out
 
 module _ {ws marks numbers out : List ℕ} where
-  pub upto_start : Upto ws marks numbers out 0 numbers out
-  upto_start = record { numbers_size = refl; size = refl; role = λ r l. absurd (omega arith); rest = refl }
-
-  pub upto_all : {numbers_after after : List ℕ} → Upto ws marks numbers out (length numbers) numbers_after after
-      → RolesCompleted ws marks numbers out numbers_after after
-  upto_all u = record { numbers_size = u.numbers_size; size = u.size; role = u.role; rest = u.rest }
-
   -- one role more, whose stretch comes back
   module _ {now after ys : List ℕ} {n number : ℕ} (u : Upto ws marks numbers out n now after) (l : n < length numbers)
       (room : length numbers * privileges ws ≤ length out) (s : length ys ≡ privileges ws)

@@ -1,9 +1,6 @@
 -- What cannot be added is refused; else the counts and the figures are added up, and the leaders taken anew. Assumes nothing.
-use Prim.Native.Nat.{◌-◌, ◌*◌}
-use mathlib.Core.Path.{◌≡◌, refl}
-use native.Mathlib.Omega.{arith}
+use Rattle.std.proofs.Common.{◌-◌, ◌*◌, ◌≡◌, refl, arith}
 use Rattle.table.specs.Privilege.{privileges}
-use Rattle.table.proofs.Facts.{facts}
 use Rattle.adding.specs.Answers.{refused}
 use Rattle.adding.specs.Steps.Checking.{Summable}
 use Rattle.adding.proofs.Given.{sum_refused, sum_fits, sum_given}
@@ -16,21 +13,6 @@ pub add_counts-requires : goal.add_counts-requires
 add_counts-requires c = let fitted : let a = c.args in Summable a.words.now a.sheet a.counts.now a.more a.more_counts.now × (c.check_sum-checked.result.place ≡ privileges a.words.now) = sum_fits c.if-checked-ne0.false c.check_sum-checked.ensures in
     let f = fitted in
     (rw f.1 f.0.whole, λ p l k i. (f.0.held p (omega (arith, f.1))).numbers (omega (arith, f.1)) k i)
-
-pub added-figures-requires : goal.added-figures-requires
-added-figures-requires c = let fitted : let a = c.args in Summable a.words.now a.sheet a.counts.now a.more a.more_counts.now × (c.check_sum-checked.result.place ≡ privileges a.words.now) = sum_fits c.if-checked-ne0.false c.check_sum-checked.ensures in
-    let v = privileges c.args.words.now in
-    (fitted.0.held v (omega arith)).figures refl
-
-pub overflow_mul-v : goal.overflow_mul-v
-overflow_mul-v c = let fitted : let a = c.args in Summable a.words.now a.sheet a.counts.now a.more a.more_counts.now × (c.check_sum-checked.result.place ≡ privileges a.words.now) = sum_fits c.if-checked-ne0.false c.check_sum-checked.ensures in
-    let f = fitted in
-    omega (arith, f.1, (facts f.0.accepted).privileges_few)
-
-pub slice_bounds-leaders_of-end : goal.slice_bounds-leaders_of-end
-slice_bounds-leaders_of-end c = let fitted : let a = c.args in Summable a.words.now a.sheet a.counts.now a.more a.more_counts.now × (c.check_sum-checked.result.place ≡ privileges a.words.now) = sum_fits c.if-checked-ne0.false c.check_sum-checked.ensures in
-    let f = fitted in
-    omega (arith, c.add_counts.ensures.kept.size, f.0.whole.own, f.1)
 
 pub returns : goal.returns
 returns c = let fitted : let a = c.args in Summable a.words.now a.sheet a.counts.now a.more a.more_counts.now × (c.check_sum-checked.result.place ≡ privileges a.words.now) = sum_fits c.if-checked-ne0.false c.check_sum-checked.ensures in

@@ -1,11 +1,7 @@
 -- A search for the lowest privilege. Assumes nothing.
-use Prim.Native.Nat.{◌-◌}
 use Rattle.table.proofs.Lowest.{Passed}
 use Rattle.adding.specs.Steps.Checking.{CountsHeld}
 use Rattle.adding.proofs.lowest_over.Given as goal
 
 abbrev pub invariant-loop-p : goal.invariant-loop-p
 invariant-loop-p l = Passed (CountsHeld l.counts l.more) l.v l.p
-
-abbrev pub decreases-loop-p : goal.decreases-loop-p
-decreases-loop-p l = l.v - l.p
