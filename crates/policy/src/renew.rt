@@ -19,10 +19,7 @@ pub fn both_allowed(marks: &[u8], n: Numbering) -> bool
     requires { n.first ≤ 4096 }
     ensures { Tells (BothIn marks.now n) result }
 {
-    if mark_at(marks, insertion(n)) != 1 {
-        return false;
-    }
-    mark_at(marks, deletion(n)) == 1
+    mark_at(marks, insertion(n)) == 1 && mark_at(marks, deletion(n)) == 1
 }
 
 // The mark of the exchange; 0 where there is none.
@@ -31,9 +28,10 @@ fn exchange_mark(marks: &[u8], n: Numbering) -> u8
     ensures { ExchangeMark marks.now n result }
 {
     if is_exchangeable(n) {
-        return mark_at(marks, exchange(n));
+        mark_at(marks, exchange(n))
+    } else {
+        0
     }
-    0
 }
 
 // Can the child of a star be renewed?
@@ -41,10 +39,7 @@ pub fn is_renewed(marks: &[u8], n: Numbering) -> bool
     requires { n.first ≤ 4096 }
     ensures { Tells (RenewedIn marks.now n) result }
 {
-    if both_allowed(marks, n) {
-        return true;
-    }
-    exchange_mark(marks, n) == 1
+    both_allowed(marks, n) || exchange_mark(marks, n) == 1
 }
 
 // The same, and whether the exchange is forbidden where insert and delete are both allowed.
@@ -55,12 +50,13 @@ pub fn renewal_of(marks: &[u8], n: Numbering) -> Renewal
     let own = exchange_mark(marks, n);
     if both_allowed(marks, n) {
         if own == 2 {
-            return Renewal::Barred;
+            Renewal::Barred
+        } else {
+            Renewal::Open
         }
-        return Renewal::Open;
+    } else if own == 1 {
+        Renewal::Open
+    } else {
+        Renewal::Shut
     }
-    if own == 1 {
-        return Renewal::Open;
-    }
-    Renewal::Shut
 }

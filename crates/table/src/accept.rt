@@ -16,10 +16,7 @@ use super::words::{entries, record_word, types, word_at};
 fn is_right(kind: usize, count: usize) -> bool
     ensures { Tells ((kind ≤ 4) × RightCount kind count) result }
 {
-    if 4 < kind {
-        return false;
-    }
-    right_count(kind, count)
+    kind <= 4 && right_count(kind, count)
 }
 
 // Stamps and counts the children of type t. Yes: each is below e, and none stands twice.
@@ -49,13 +46,7 @@ fn stamp_children(
 fn totals_fit(words: &[u16], children: usize, privileges: usize) -> bool
     ensures { Tells (Totals words.now children privileges) result }
 {
-    if children != entries(words) {
-        return false;
-    }
-    if 4096 < privileges {
-        return false;
-    }
-    word_at(words, 7) == privileges
+    children == entries(words) && privileges <= 4096 && word_at(words, 7) == privileges
 }
 
 // Stamps and counts every type's children. Yes: checks 3 to 7 and 9 pass, and the counts are right. Of the childless kinds, empty, 0, has no
@@ -103,10 +94,7 @@ pub fn is_accepted(words: &[u16], order: &mut [u8; 256]) -> bool
     requires { length order.old ≡ 256 }
     ensures { Accepting words.now order.new result }
 {
-    if !is_headed(words) {
-        return false;
-    }
-    if !is_laid(words) {
+    if !is_headed(words) || !is_laid(words) {
         return false;
     }
     let mut stamps = [65535u16; 256];

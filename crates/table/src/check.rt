@@ -78,14 +78,8 @@ fn places_in(check: Check, e: usize) -> usize
 pub fn is_headed(words: &[u16]) -> bool
     ensures { Tells (Headed words.now) result }
 {
-    if words.len() < 8 {
-        return false;
-    }
     let format = word_at(words, 0);
-    if format == 1 {
-        return true;
-    }
-    format == 2
+    8 <= words.len() && (format == 1 || format == 2)
 }
 
 pub fn is_laid(words: &[u16]) -> bool
@@ -94,46 +88,25 @@ pub fn is_laid(words: &[u16]) -> bool
     let size = word_at(words, 1);
     let e = types(words);
     let c = entries(words);
-    if e < 1 {
-        return false;
-    }
-    if 256 < e {
-        return false;
-    }
-    if e <= word_at(words, 3) {
-        return false;
-    }
-    if word_at(words, 4) != 8 {
-        return false;
-    }
-    if 1024 < c {
-        return false;
-    }
-    if word_at(words, 6) != 8 + 3 * e {
-        return false;
-    }
-    if size != 8 + 3 * e + c {
-        return false;
-    }
-    words.len() == size
+    1 <= e
+        && e <= 256
+        && word_at(words, 3) < e
+        && word_at(words, 4) == 8
+        && c <= 1024
+        && word_at(words, 6) == 8 + 3 * e
+        && size == 8 + 3 * e + c
+        && words.len() == size
 }
 
 pub fn right_count(kind: usize, count: usize) -> bool
     ensures { Tells (RightCount kind count) result }
 {
-    if kind < 2 {
-        return count == 0;
+    match kind {
+        0 | 1 => count == 0,
+        2 | 3 => 1 <= count && count <= 16,
+        4 => count == 1,
+        _ => true,
     }
-    if kind < 4 {
-        if count < 1 {
-            return false;
-        }
-        return count <= 16;
-    }
-    if kind == 4 {
-        return count == 1;
-    }
-    true
 }
 
 // The running index at t, read off the type before, whose children follow on.
@@ -184,10 +157,7 @@ fn is_counted(words: &[u16]) -> bool
     ensures { Tells (Counted words.now) result }
 {
     let v = privileges(words);
-    if 4096 < v {
-        return false;
-    }
-    word_at(words, 7) == v
+    v <= 4096 && word_at(words, 7) == v
 }
 
 // Marks the types that are reached from the root, for the check that asks it.
