@@ -15,6 +15,15 @@ use table::privilege::{first_privileges, privileges_at};
 use table::rule::{Rule, child_at, children, rule_at};
 use table::words::{types, word_at};
 
+// A revised schema: the old table with its marks, the new table, and the new number of each old type.
+#[derive(Clone, Copy)]
+pub(crate) struct Revision<'a> {
+    pub words: &'a [u16],
+    pub marks: &'a [u8],
+    pub new_words: &'a [u16],
+    pub numbers: &'a [u16],
+}
+
 // An old type and the new one that it becomes, each with its first privilege.
 #[derive(Clone, Copy)]
 struct Site {
@@ -25,126 +34,94 @@ struct Site {
 }
 
 // Carries the mark of the change of a text, where both are text.
-fn carry_text(
-    old: &[u16],
-    marks: &[u8],
-    new: &[u16],
-    numbers: &[u16],
-    site: Site,
-    out: &mut [u8],
-    lost: &mut [u8],
-)
-    requires { MovingAt old.now marks.now new.now numbers.now out.old lost.old site }
-    ensures { Scattered (BecomesBy (TextAt site.x) old.now new.now numbers.now) marks.now out.old lost.old out.new lost.new }
+fn carry_text(revision: Revision, site: Site, out: &mut [u8], lost: &mut [u8])
+    requires { MovingAt revision.words.now revision.marks.now revision.new_words.now revision.numbers.now out.old lost.old site }
+    ensures { Scattered (BecomesBy (TextAt site.x) revision.entry.words.now revision.entry.new_words.now revision.entry.numbers.now) revision.entry.marks.now out.old lost.old out.new lost.new }
 {
-    let Rule::Text = rule_at(old, site.x) else {
+    let Rule::Text = rule_at(revision.words, site.x) else {
         return;
     };
-    let Rule::Text = rule_at(new, site.y) else {
+    let Rule::Text = rule_at(revision.new_words, site.y) else {
         return;
     };
-    move_mark(marks, site.first, site.onto, out, lost);
+    move_mark(revision.marks, site.first, site.onto, out, lost);
 }
 
 // Carries the marks of insert and delete, where both are stars of one child.
-fn carry_ends(
-    old: &[u16],
-    marks: &[u8],
-    new: &[u16],
-    numbers: &[u16],
-    site: Site,
-    out: &mut [u8],
-    lost: &mut [u8],
-)
-    requires { MovingAt old.now marks.now new.now numbers.now out.old lost.old site }
-    ensures { Scattered (BecomesBy (EndsAt site.x) old.now new.now numbers.now) marks.now out.old lost.old out.new lost.new }
+fn carry_ends(revision: Revision, site: Site, out: &mut [u8], lost: &mut [u8])
+    requires { MovingAt revision.words.now revision.marks.now revision.new_words.now revision.numbers.now out.old lost.old site }
+    ensures { Scattered (BecomesBy (EndsAt site.x) revision.entry.words.now revision.entry.new_words.now revision.entry.numbers.now) revision.entry.marks.now out.old lost.old out.new lost.new }
 {
-    let Rule::Star { .. } = rule_at(old, site.x) else {
+    let Rule::Star { .. } = rule_at(revision.words, site.x) else {
         return;
     };
-    let Rule::Star { .. } = rule_at(new, site.y) else {
+    let Rule::Star { .. } = rule_at(revision.new_words, site.y) else {
         return;
     };
-    if word_at(numbers, child_at(old, site.x, 0)) != child_at(new, site.y, 0) {
+    if word_at(revision.numbers, child_at(revision.words, site.x, 0))
+        != child_at(revision.new_words, site.y, 0)
+    {
         return;
     }
-    move_mark(marks, site.first, site.onto, out, lost);
-    move_mark(marks, site.first + 1, site.onto + 1, out, lost);
+    move_mark(revision.marks, site.first, site.onto, out, lost);
+    move_mark(revision.marks, site.first + 1, site.onto + 1, out, lost);
 }
 
 // Carries the marks of the replacements, by the kinds they name.
-fn carry_replacements(
-    old: &[u16],
-    marks: &[u8],
-    new: &[u16],
-    numbers: &[u16],
-    site: Site,
-    out: &mut [u8],
-    lost: &mut [u8],
-)
-    requires { MovingAt old.now marks.now new.now numbers.now out.old lost.old site }
-    ensures { Scattered (BecomesBy (ReplacesAt site.x) old.now new.now numbers.now) marks.now out.old lost.old out.new lost.new }
+fn carry_replacements(revision: Revision, site: Site, out: &mut [u8], lost: &mut [u8])
+    requires { MovingAt revision.words.now revision.marks.now revision.new_words.now revision.numbers.now out.old lost.old site }
+    ensures { Scattered (BecomesBy (ReplacesAt site.x) revision.entry.words.now revision.entry.new_words.now revision.entry.numbers.now) revision.entry.marks.now out.old lost.old out.new lost.new }
 {
-    let from = replaces_at(old, site.x, site.first);
+    let from = replaces_at(revision.words, site.x, site.first);
     if from.count == 0 {
         return;
     }
-    let to = replaces_at(new, site.y, site.onto);
+    let to = replaces_at(revision.new_words, site.y, site.onto);
     let at = places(
-        children(old, site.x),
+        children(revision.words, site.x),
         from.count,
-        numbers,
-        children(new, site.y),
+        revision.numbers,
+        children(revision.new_words, site.y),
         to.count,
     );
-    carry_rows(marks, from, to, &at, out, lost);
+    carry_rows(revision.marks, from, to, &at, out, lost);
 }
 
 // Carries the marks of the old type x, whose first privilege is given.
 fn carry_type(
-    old: &[u16],
-    marks: &[u8],
-    new: &[u16],
-    numbers: &[u16],
+    revision: Revision,
     firsts: &[u16; 256],
     x: usize,
     first: usize,
     out: &mut [u8],
     lost: &mut [u8],
 )
-    requires { Moving old.now marks.now new.now numbers.now out.old lost.old × ((y : ℕ) → y < types new.now → get_or firsts.now y 0 ≡ first_privilege new.now y) × (x < types old.now) × (first ≡ first_privilege old.now x) }
-    ensures { Scattered (BecomesBy (OfType x) old.now new.now numbers.now) marks.now out.old lost.old out.new lost.new }
+    requires { Moving revision.words.now revision.marks.now revision.new_words.now revision.numbers.now out.old lost.old × ((y : ℕ) → y < types revision.new_words.now → get_or firsts.now y 0 ≡ first_privilege revision.new_words.now y) × (x < types revision.words.now) × (first ≡ first_privilege revision.words.now x) }
+    ensures { Scattered (BecomesBy (OfType x) revision.entry.words.now revision.entry.new_words.now revision.entry.numbers.now) revision.entry.marks.now out.old lost.old out.new lost.new }
 {
-    let y = word_at(numbers, x);
-    if types(new) <= y {
+    let y = word_at(revision.numbers, x);
+    if types(revision.new_words) <= y {
         return;
     }
     let onto = word_at(firsts, y);
     let site = Site { x, first, y, onto };
-    carry_text(old, marks, new, numbers, site, out, lost);
-    carry_ends(old, marks, new, numbers, site, out, lost);
-    carry_replacements(old, marks, new, numbers, site, out, lost);
+    carry_text(revision, site, out, lost);
+    carry_ends(revision, site, out, lost);
+    carry_replacements(revision, site, out, lost);
 }
 
 // Carries all marks.
-pub(crate) fn carry_all(
-    old: &[u16],
-    marks: &[u8],
-    new: &[u16],
-    numbers: &[u16],
-    out: &mut [u8],
-    lost: &mut [u8],
-)
-    requires { Moving old.now marks.now new.now numbers.now out.old lost.old }
-    ensures { Carries old.now marks.now new.now numbers.now out.new lost.new }
+pub(crate) fn carry_all(revision: Revision, out: &mut [u8], lost: &mut [u8])
+    requires { Moving revision.words.now revision.marks.now revision.new_words.now revision.numbers.now out.old lost.old }
+    ensures { Carries revision.entry.words.now revision.entry.marks.now revision.entry.new_words.now revision.entry.numbers.now out.new lost.new }
 {
     let mut firsts = [0u16; 256];
-    first_privileges(new, &mut firsts);
+    first_privileges(revision.new_words, &mut firsts);
     out.fill(0);
-    lose_all(marks, lost);
+    lose_all(revision.marks, lost);
     let mut first = 0;
-    for x in 0..types(old) {
-        carry_type(old, marks, new, numbers, &firsts, x, first, out, lost);
-        first += privileges_at(old, x);
+    for x in 0..types(revision.words) {
+        carry_type(revision, &firsts, x, first, out, lost);
+        first += privileges_at(revision.words, x);
     }
 }

@@ -16,7 +16,7 @@ mod places;
 mod replaced;
 mod scatter;
 
-use carrying::carry_all;
+use carrying::{Revision, carry_all};
 use numbers::check_numbers;
 use policy::marks::check_policy;
 use table::words::{types, word_at};
@@ -33,18 +33,17 @@ fn of_new(refusal: Refusal) -> Refusal
 }
 
 // Checks all that is read: the old table and its marks, the new table, and the list of new numbers, in this order.
-fn check_move(
-    old_words: &[u16],
-    old_marks: &[u8],
-    new_words: &[u16],
-    new_numbers: &[u16],
-) -> Result<(), Refusal>
-    ensures { MoveAnswer old_words.now old_marks.now new_words.now new_numbers.now (number_in result) (no_place_in result) }
+fn check_move(revision: Revision) -> Result<(), Refusal>
+    ensures { MoveAnswer revision.entry.words.now revision.entry.marks.now revision.entry.new_words.now revision.entry.numbers.now (number_in result) (no_place_in result) }
 {
     let mut order = [0u8; 256];
-    check_policy(old_words, old_marks, &mut order)?;
-    match check_table(new_words) {
-        Ok(_) => check_numbers(new_numbers, types(old_words), types(new_words)),
+    check_policy(revision.words, revision.marks, &mut order)?;
+    match check_table(revision.new_words) {
+        Ok(_) => check_numbers(
+            revision.numbers,
+            types(revision.words),
+            types(revision.new_words),
+        ),
         Err(refusal) => Err(of_new(refusal)),
     }
 }
@@ -61,19 +60,18 @@ pub fn carry_marks(
 ) -> Result<(), Refusal>
     ensures { CarryAnswer old_words.now old_marks.now new_words.now new_numbers.now out.old lost.old (done_answer result) out.new lost.new }
 {
-    check_move(old_words, old_marks, new_words, new_numbers)?;
+    let revision = Revision {
+        words: old_words,
+        marks: old_marks,
+        new_words,
+        numbers: new_numbers,
+    };
+    check_move(revision)?;
     let v = word_at(new_words, 7);
     let w = word_at(old_words, 7);
     if out.len() < v || lost.len() < w {
         return Err(Refusal::ResultLength);
     }
-    carry_all(
-        old_words,
-        old_marks,
-        new_words,
-        new_numbers,
-        &mut out[0..v],
-        &mut lost[0..w],
-    );
+    carry_all(revision, &mut out[0..v], &mut lost[0..w]);
     Ok(())
 }

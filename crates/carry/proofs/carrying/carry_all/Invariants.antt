@@ -7,6 +7,6 @@ use Rattle.carry.proofs.carrying.carry_all.Given as goal
 
 abbrev pub invariant-loop-x : goal.invariant-loop-x
 invariant-loop-x l = record {
-  first : l.first ≡ first_privilege l.old l.x;
-  moved : Scattered (BecomesBy (TypesTo l.x) l.old l.new l.numbers) l.marks l.initial.out l.initial.lost l.out l.lost;
+  first : l.first ≡ first_privilege l.revision.words.now l.x;
+  moved : Scattered (BecomesBy (TypesTo l.x) l.revision.words.now l.revision.new_words.now l.revision.numbers.now) l.revision.marks.now l.initial.out l.initial.lost l.out l.lost;
 }

@@ -12,14 +12,14 @@ rule_at-requires c = has_record c.requires.moving.move.policy.accepted c.require
 
 pub returns-in_default : goal.returns-in_default
 returns-in_default c = let a = c.args in
-    ends_none_old a.old.now a.new.now a.numbers.now a.site.x a.site.y c.requires.y_is (no_star c.rule_at.ensures c.in_default.not-Star)
+    ends_none_old a.revision.words.now a.revision.new_words.now a.revision.numbers.now a.site.x a.site.y c.requires.y_is (no_star c.rule_at.ensures c.in_default.not-Star)
 
 pub rule_at-requires-2 : goal.rule_at-requires-2
 rule_at-requires-2 c = has_record c.requires.moving.move.accepted c.requires.there
 
 pub returns-in_default-rule_at : goal.returns-in_default-rule_at
 returns-in_default-rule_at c = let a = c.args in
-    ends_none_new a.old.now a.new.now a.numbers.now a.site.x a.site.y c.requires.y_is (no_star c.rule_at-2.ensures c.in_default-rule_at.not-Star)
+    ends_none_new a.revision.words.now a.revision.new_words.now a.revision.numbers.now a.site.x a.site.y c.requires.y_is (no_star c.rule_at-2.ensures c.in_default-rule_at.not-Star)
 
 pub child_at-requires : goal.child_at-requires
 child_at-requires c = has_children c.requires.moving.move.policy.accepted c.requires.type
@@ -29,8 +29,8 @@ child_at-requires-2 c = has_children c.requires.moving.move.accepted c.requires.
 
 pub returns-then-word_at-child_at : goal.returns-then-word_at-child_at
 returns-then-word_at-child_at c = let a = c.args in
-    ends_none_child a.old.now a.new.now a.numbers.now a.site.x a.site.y c.requires.y_is
-    (λ e. c.if-word_at-child_at.true (c.word_at.ensures.is ∙ ap (new_number a.numbers.now) c.child_at.ensures ∙ e ∙ sym c.child_at-2.ensures))
+    ends_none_child a.revision.words.now a.revision.new_words.now a.revision.numbers.now a.site.x a.site.y c.requires.y_is
+    (λ e. c.if-word_at-child_at.true (c.word_at.ensures.is ∙ ap (new_number a.revision.numbers.now) c.child_at.ensures ∙ e ∙ sym c.child_at-2.ensures))
 
 pub move_mark-requires : goal.move_mark-requires
 move_mark-requires c = let a = c.args in
@@ -63,6 +63,6 @@ move_mark-requires-2 c = let a = c.args in
 pub returns : goal.returns
 returns c = let a = c.args in
     let w = c.requires in
-    let same = ap (new_number a.numbers.now) (sym c.child_at.ensures) ∙ sym c.word_at.ensures.is ∙ c.if-word_at-child_at.false ∙ c.child_at-2.ensures in
-    ends_moved a.old.now a.new.now a.numbers.now a.site.x a.site.y w.y_is (is_star c.rule_at.ensures w.type c.in-Star.is)
+    let same = ap (new_number a.revision.numbers.now) (sym c.child_at.ensures) ∙ sym c.word_at.ensures.is ∙ c.if-word_at-child_at.false ∙ c.child_at-2.ensures in
+    ends_moved a.revision.words.now a.revision.new_words.now a.revision.numbers.now a.site.x a.site.y w.y_is (is_star c.rule_at.ensures w.type c.in-Star.is)
     (is_star c.rule_at-2.ensures w.there c.in-Star-rule_at.is) same w.first_is w.onto_is c.move_mark.ensures c.move_mark-2.ensures

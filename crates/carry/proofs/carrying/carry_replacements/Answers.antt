@@ -8,7 +8,7 @@ use Rattle.carry.proofs.carrying.carry_replacements.Goals as goal
 
 pub returns-then-from-eq0 : goal.returns-then-from-eq0
 returns-then-from-eq0 c = let a = c.args in
-    replaces_never a.old.now a.new.now a.numbers.now c.replaces_at-from.ensures c.if-from-eq0.true
+    replaces_never a.revision.words.now a.revision.new_words.now a.revision.numbers.now c.replaces_at-from.ensures c.if-from-eq0.true
 
 pub children-requires : goal.children-requires
 children-requires c = let w = c.requires in has_children w.moving.move.policy.accepted w.type
@@ -27,9 +27,9 @@ carry_rows-requires c = let w = c.requires.moving in
 pub returns : goal.returns
 returns c = let a = c.args in
     let w = c.requires in
-    let old = a.old.now in
-    let new = a.new.now in
-    let numbers = a.numbers.now in
+    let old = a.revision.words.now in
+    let new = a.revision.new_words.now in
+    let numbers = a.revision.numbers.now in
     let at = c.places-at.result in
     let b = w.moving.move.accepted in
     let placed = rw (c.children.ensures, c.children-2.ensures) at c.places-at.ensures in

@@ -11,14 +11,14 @@ rule_at-requires c = has_record c.requires.moving.move.policy.accepted c.require
 
 pub returns-in_default : goal.returns-in_default
 returns-in_default c = let a = c.args in
-    text_none_old a.old.now a.new.now a.numbers.now a.site.x a.site.y c.requires.y_is (no_text c.rule_at.ensures c.in_default.not-Text)
+    text_none_old a.revision.words.now a.revision.new_words.now a.revision.numbers.now a.site.x a.site.y c.requires.y_is (no_text c.rule_at.ensures c.in_default.not-Text)
 
 pub rule_at-requires-2 : goal.rule_at-requires-2
 rule_at-requires-2 c = has_record c.requires.moving.move.accepted c.requires.there
 
 pub returns-in_default-rule_at : goal.returns-in_default-rule_at
 returns-in_default-rule_at c = let a = c.args in
-    text_none_new a.old.now a.new.now a.numbers.now a.site.x a.site.y c.requires.y_is (no_text c.rule_at-2.ensures c.in_default-rule_at.not-Text)
+    text_none_new a.revision.words.now a.revision.new_words.now a.revision.numbers.now a.site.x a.site.y c.requires.y_is (no_text c.rule_at-2.ensures c.in_default-rule_at.not-Text)
 
 pub move_mark-requires : goal.move_mark-requires
 move_mark-requires c = let a = c.args in
@@ -29,5 +29,5 @@ move_mark-requires c = let a = c.args in
 pub returns : goal.returns
 returns c = let a = c.args in
     let w = c.requires in
-    text_moved a.old.now a.new.now a.numbers.now a.site.x a.site.y w.y_is (is_text c.rule_at.ensures w.type c.in-Text.is)
+    text_moved a.revision.words.now a.revision.new_words.now a.revision.numbers.now a.site.x a.site.y w.y_is (is_text c.rule_at.ensures w.type c.in-Text.is)
     (is_text c.rule_at-2.ensures w.there c.in-Text-rule_at.is) w.first_is w.onto_is c.move_mark.ensures

@@ -4,4 +4,4 @@ use Rattle.carry.proofs.carrying.carry_type.Goals as goal
 
 pub returns : goal.returns
 returns c = let a = c.args in
-    type_moved a.old.now a.new.now a.numbers.now a.x c.carry_text.ensures c.carry_ends.ensures c.carry_replacements.ensures
+    type_moved a.revision.words.now a.revision.new_words.now a.revision.numbers.now a.x c.carry_text.ensures c.carry_ends.ensures c.carry_replacements.ensures
