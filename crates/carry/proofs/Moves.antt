@@ -1,6 +1,5 @@
 -- What checking all that is read answers, by its number; and what is read of an accepted table. Assumes nothing.
 use Rattle.std.proofs.Common.{◌≡◌, ◌≢◌, ◌⊎◌, ℕ, ◌≤◌, ◌<◌, List, get_or, refl, ◌∙◌, inl, inr, arith}
-use Rattle.table.specs.Words.{types}
 use Rattle.table.specs.Privilege.{privileges}
 use Rattle.table.specs.Check.{number_of, Accepted, TableAnswer, refused, accepted}
 use Rattle.table.specs.declared.check.Check.{Check}
@@ -10,10 +9,9 @@ use Rattle.table.specs.declared.refusal.Refusal.{Refusal}
 use Rattle.table.specs.declared.refusal.Refusal.TheVariants.{Table, NewTable, MarksLength, NoPrivilege, Mark, ResultLength, ProposedLength, ProposedMark, ProposedSpareBit, Change, NumbersLength, NewNumber, NoText, TooLarge, Misnamed, BothSet, SpareBit, NoLine, NotAbove, RefusedSheet, SumTooLarge}
 use Rattle.table.proofs.Answers.{refusal_not}
 use Rattle.policy.specs.Marks.{Policy}
-use Rattle.carry.specs.Numbers.{NoNumbers, length_off, entry_off}
 use Rattle.carry.specs.Carries.{Move}
-use Rattle.carry.specs.Answers.{NoMove, no_table, no_numbers}
-use Rattle.carry.specs.Steps.Using.{NumbersAnswer, unlisted, listed, MoveAnswer, stays, moves}
+use Rattle.carry.specs.Answers.{NoMove, no_table}
+use Rattle.carry.specs.Steps.Using.{MoveAnswer, stays, moves}
 
 number_range : (c : Check) → (number_of c ≤ 9) ⊎ (number_of c ≡ 19)
 number_range Format = inl (omega arith)
@@ -62,16 +60,7 @@ module _ {old marks new numbers : List ℕ} (pol : Policy old marks) where
 pub stated : {ws : List ℕ} → Accepted ws → get_or ws 7 0 ≡ privileges ws
 stated a = (a.passes Total 0 (omega arith)).stated
 
-numbers_some : {e f : ℕ} {numbers : List ℕ} {n p : ℕ} → NoNumbers e f numbers n p → n ≢ 0
-numbers_some (length_off d e z) = omega arith
-numbers_some (entry_off s e l) = omega arith
-
 module _ {old marks new numbers : List ℕ} {n p : ℕ} where
-  -- past both tables the list decides
-  pub move_listed : Policy old marks → Accepted new → NumbersAnswer (types old) (types new) numbers n p → MoveAnswer old marks new numbers n p
-  move_listed pol acc (unlisted u) = stays (numbers_some u) (no_numbers pol acc u)
-  move_listed pol acc (listed l e) = moves (record { policy = pol; accepted = acc; listed = l }) e
-
   -- by its number
   pub move_refused : n ≢ 0 → MoveAnswer old marks new numbers n p → NoMove old marks new numbers n p
   move_refused d (stays e r) = r
