@@ -1,11 +1,9 @@
 -- What each pass over a text of the grammar leaves, and what it refuses. Assumes nothing.
-use Rattle.std.proofs.Common.{ℕ, zero, suc, ◌+◌, ◌*◌, ◌≤◌, ◌<◌, ◌≡◌, refl, sym, ◌∙◌, ap, subst, inl, inr, List, arith, length, take, drop, length-take, take-append-drop, ext_get_or, get_or-take}
+use Rattle.std.proofs.Common.{Some, None, ℕ, zero, suc, ◌+◌, ◌*◌, ◌≤◌, ◌<◌, ◌≡◌, refl, sym, ◌∙◌, ap, subst, inl, inr, List, arith, length, take, drop, length-take, take-append-drop, ext_get_or, get_or-take}
 use Rattle.grammar.specs.Tree.{Particle, Particles, Content, Declaration, Nth, first, later}
 use Rattle.grammar.specs.Grammar.{Cp, cp_name, cp_group, Children, as_choice, as_sequence, Row, closed, separated, Spec, spec_empty, spec_any, spec_text, spec_starred, spec_mixed, spec_children}
 use Rattle.grammar.specs.Grammar.{element, Items, no_more, a_space, a_comment, a_declaration}
 use Rattle.grammar.specs.Stops.{Begins, Stops}
-use Rattle.table.specs.declared.Found.{Found}
-use Rattle.table.specs.declared.Found.TheVariants.{At, Nothing}
 use Rattle.grammar.specs.Limits.{DeepAt, DeepIn, deep_group, long_text}
 use Rattle.grammar.proofs.OneTree.{one_tree}
 use Rattle.grammar.proofs.Stopping.{le_or_lt, text_no_stop, over_within}
@@ -146,20 +144,17 @@ module _ {t list code-words : List ℕ} {count types kids : ℕ} (c : Encoded t 
         no_large (many_types e g n) = let z = subst (λ (s : List Declaration). 256 < length (rules_of s)) (one_tree g c.collected.read.text) n in omega (arith, x.types_are)
         no_large (many_children e g n) = let z = subst (λ (s : List Declaration). 1024 < length (kids_of_all (rules_of s))) (one_tree g c.collected.read.text) n in omega (arith, x.kids_are)
 
-    pub wrong_name : {format k : ℕ} → names.FirstMisnamed (declarations c.collected.read) (At k) → NoTable t format 22 k
+    pub wrong_name : {format k : ℕ} → names.FirstMisnamed (declarations c.collected.read) (Some k) → NoTable t format 22 k
     wrong_name y = misnamed refl read_it y.0 y.1
 
     pub writable : Writable (declarations c.collected.read) code-words count types kids
     writable = record { coded = c.coded; all = c.collected.known.all; counted = x; small = record { some = omega arith; types_few = omega (arith, x.types_are); kids_few = omega (arith, x.kids_are) } }
 
-    pub last_answer : {out after : List ℕ} {format n p : ℕ} → names.FirstMisnamed (declarations c.collected.read) Nothing
+    pub last_answer : {out after : List ℕ} {format n p : ℕ} → names.FirstMisnamed (declarations c.collected.read) None
         → Last (table_of format (declarations c.collected.read)) out n p after → DtdAnswer t out format n p after
     last_answer y (last_refused k e r z) = refused (no_table k e (record { read = read_it; right = y }) r) z
     last_answer y (last_short e q a l z) = too_short e q (record { named = record { read = read_it; right = y }; accepted = a }) l z
     last_answer y (last_done e q a l z) = done e q (record { named = record { read = read_it; right = y }; accepted = a }) l z
-
-pub first_is : (ds : List Declaration) {r q : Found} → r ≡ q → names.FirstMisnamed ds r → names.FirstMisnamed ds q
-first_is ds e x = rw e at x
 
 -- the words that were written
 module _ {words front : List ℕ} (n : ℕ) {ds : List Declaration} {code-words : List ℕ} {declared types kids : ℕ} (w : Writable ds code-words declared types kids) (x : Written code-words words declared types kids)

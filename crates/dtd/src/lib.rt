@@ -3,6 +3,7 @@
 
 ghost use Rattle.std.specs.Prelude.{List};
 ghost use Rattle.grammar.specs.Tree.{Declaration};
+ghost use Rattle.table.specs.Refusals.{number_in, place_in};
 ghost use Rattle.scan.specs.Steps.Scanned.{Read};
 ghost use Rattle.model.specs.Tables.{table_of};
 ghost use Rattle.dtd.specs.Answer.{KnownFormat, DtdAnswer};
@@ -15,8 +16,13 @@ use code::put_all;
 use finish::finish;
 use names::{collect, first_misnamed};
 use scan::{Stop, scan};
-use table::{Checked, Found};
+use table::Refusal;
 use write::{Counts, count, write_rules};
+
+// A table has no more types, and no more child entries.
+const MOST_TYPES: usize = 256;
+
+const MOST_KIDS: usize = 1024;
 
 // Writes the table of a code, and answers for it.
 fn read_table(
@@ -25,15 +31,15 @@ fn read_table(
     counts: Counts,
     format: u16,
     out: &mut [u16],
-) -> Checked
+) -> Result<usize, Refusal>
     requires { KnownFormat format × ((ds : List Declaration) × Writable ds code.now declared counts.types counts.kids) }
     ensures { (ds : List Declaration) → Writable ds code.now declared counts.types counts.kids
-        → Last (table_of format ds) out.old result.number result.place out.new }
+        → Last (table_of format ds) out.old (number_in result) (place_in result) out.new }
 {
     let mut words = [0u16; 1800];
     write_rules(code, declared, counts, &mut words);
     let n = 8 + 3 * counts.types + counts.kids;
-    finish(&mut words[0..n], format, out)
+    finish(&mut words[..n], format, out)
 }
 
 // Counts types and child entries, and looks for a name that is declared twice or not at all.
@@ -44,29 +50,17 @@ fn read_code(
     code: &[u32],
     format: u16,
     out: &mut [u16],
-) -> Checked
+) -> Result<usize, Refusal>
     requires { KnownFormat format × Encoded text.now list.now declared code.now }
-    ensures { DtdAnswer text.now out.old format result.number result.place out.new }
+    ensures { DtdAnswer text.now out.old format (number_in result) (place_in result) out.new }
 {
     let counts = count(code);
-    if counts.types > 256 {
-        return Checked {
-            number: 21,
-            place: text.len(),
-        };
-    }
-    if counts.kids > 1024 {
-        return Checked {
-            number: 21,
-            place: text.len(),
-        };
+    if counts.types > MOST_TYPES || counts.kids > MOST_KIDS {
+        return Err(Refusal::TooLarge(text.len()));
     }
     match first_misnamed(text, list, declared) {
-        Found::At(k) => Checked {
-            number: 22,
-            place: k,
-        },
-        Found::Nothing => read_table(code, declared, counts, format, out),
+        Some(at) => Err(Refusal::Misnamed(at)),
+        None => read_table(code, declared, counts, format, out),
     }
 }
 
@@ -77,59 +71,46 @@ fn read_named(
     declared: usize,
     format: u16,
     out: &mut [u16],
-) -> Checked
+) -> Result<usize, Refusal>
     requires { KnownFormat format × Collected text.now list.now declared }
-    ensures { DtdAnswer text.now out.old format result.number result.place out.new }
+    ensures { DtdAnswer text.now out.old format (number_in result) (place_in result) out.new }
 {
     let mut code = [0u32; 1280];
     let size = put_all(text, list, declared, &mut code);
     if size > 1280 {
-        return Checked {
-            number: 21,
-            place: text.len(),
-        };
+        return Err(Refusal::TooLarge(text.len()));
     }
-    read_code(text, list, declared, &code[0..size], format, out)
+    read_code(text, list, declared, &code[..size], format, out)
 }
 
 // Collects the declared names of a text of the grammar.
-fn read_text(text: &[u8], format: u16, out: &mut [u16]) -> Checked
+fn read_text(text: &[u8], format: u16, out: &mut [u16]) -> Result<usize, Refusal>
     requires { KnownFormat format × Read text.now }
-    ensures { DtdAnswer text.now out.old format result.number result.place out.new }
+    ensures { DtdAnswer text.now out.old format (number_in result) (place_in result) out.new }
 {
     let mut list = [0u16; 512];
     let declared = collect(text, &mut list);
     if declared > 256 {
-        return Checked {
-            number: 21,
-            place: text.len(),
-        };
+        return Err(Refusal::TooLarge(text.len()));
     }
     read_named(text, &list, declared, format, out)
 }
 
-// Reads DTD text, whatever it holds: 0 and V where its table of this format, 1 or 2, was written to the front of out, else the refusal's number and
-// place.
-pub fn read_format(text: &[u8], format: u16, out: &mut [u16]) -> Checked
+// Reads DTD text, whatever it holds: V where its table of this format, 1 or 2, was written to the front of out, else the refusal.
+pub fn read_format(text: &[u8], format: u16, out: &mut [u16]) -> Result<usize, Refusal>
     requires { KnownFormat format }
-    ensures { DtdAnswer text.now out.old format result.number result.place out.new }
+    ensures { DtdAnswer text.now out.old format (number_in result) (place_in result) out.new }
 {
     match scan(text) {
         Ok(_) => read_text(text, format, out),
-        Err(Stop::Bad(k)) => Checked {
-            number: 20,
-            place: k,
-        },
-        Err(Stop::Over(k)) => Checked {
-            number: 21,
-            place: k,
-        },
+        Err(Stop::Bad(k)) => Err(Refusal::NoText(k)),
+        Err(Stop::Over(k)) => Err(Refusal::TooLarge(k)),
     }
 }
 
 // Reads DTD text into a table of format 1.
-pub fn read_dtd(text: &[u8], out: &mut [u16]) -> Checked
-    ensures { DtdAnswer text.now out.old 1 result.number result.place out.new }
+pub fn read_dtd(text: &[u8], out: &mut [u16]) -> Result<usize, Refusal>
+    ensures { DtdAnswer text.now out.old 1 (number_in result) (place_in result) out.new }
 {
     read_format(text, 1, out)
 }
