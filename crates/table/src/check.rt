@@ -101,11 +101,12 @@ pub fn is_laid(words: &[u16]) -> bool
 pub fn right_count(kind: usize, count: usize) -> bool
     ensures { Tells (RightCount kind count) result }
 {
-    match kind {
-        0 | 1 => count == 0,
-        2 | 3 => 1 <= count && count <= 16,
-        4 => count == 1,
-        _ => true,
+    if kind < 2 {
+        count == 0
+    } else if kind < 4 {
+        1 <= count && count <= 16
+    } else {
+        kind != 4 || count == 1
     }
 }
 
