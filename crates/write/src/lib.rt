@@ -1,7 +1,7 @@
 // From the code of a text's declarations to the words of their table. Contracts cite specs/Steps/Code.
 #![tactic(auto)]
 
-ghost use Rattle.std.specs.Prelude.{◌≤◌, ◌≡◌, List, length};
+ghost use Rattle.std.specs.Prelude.{◌≤◌, List};
 ghost use Rattle.grammar.specs.Tree.{Declaration};
 ghost use Rattle.write.specs.Steps.Code.{Coded, Counted, Written};
 ghost use Rattle.write.specs.Steps.Writing.{Puts, head_of};
@@ -36,7 +36,7 @@ pub fn count(code: &[u32]) -> Counts
 
 // Writes the words before the records, word 7 as 0.
 fn write_header(counts: Counts, out: &mut [u16; 1800])
-    requires { (length out.old ≡ 1800) × (counts.types ≤ 256) × (counts.kids ≤ 1024) }
+    requires { (counts.types ≤ 256) × (counts.kids ≤ 1024) }
     ensures { Puts out.old 0 (head_of counts.types counts.kids) out.new }
 {
     let list = 8 + 3 * counts.types;
@@ -52,7 +52,6 @@ fn write_header(counts: Counts, out: &mut [u16; 1800])
 
 // Writes the table of the declarations whose code this is, all but its word 7, which is left 0.
 pub fn write_rules(code: &[u32], declared: usize, counts: Counts, out: &mut [u16; 1800])
-    requires { length out.old ≡ 1800 }
     ensures { Written code.now out.new declared counts.types counts.kids }
 {
     if code.len() > 1280 || declared > 256 || counts.types > 256 || counts.kids > 1024 {

@@ -12,7 +12,7 @@ use super::read::{
 
 // Puts a word at a place, if there is one.
 fn put(out: &mut [u16; 1800], i: usize, word: usize)
-    requires { (length out.old ≡ 1800) × (word < 65536) }
+    requires { word < 65536 }
     ensures { Puts out.old i (word ∷ []) out.new }
 {
     if i < out.len() {
@@ -22,7 +22,7 @@ fn put(out: &mut [u16; 1800], i: usize, word: usize)
 
 // Puts the record of type t.
 fn put_record(out: &mut [u16; 1800], t: usize, kind: usize, count: usize, first: usize)
-    requires { (length out.old ≡ 1800) × (t < 4294967296) × (kind < 65536) }
+    requires { (t < 4294967296) × (kind < 65536) }
     ensures { Puts out.old (8 + 3 * t) (kind ∷ count % 65536 ∷ first % 65536 ∷ []) out.new }
 {
     let i = 8 + 3 * t;
@@ -33,7 +33,7 @@ fn put_record(out: &mut [u16; 1800], t: usize, kind: usize, count: usize, first:
 
 // Puts the children that n operands are.
 fn put_children(code: &[u32], from: Place, n: usize, start: usize, out: &mut [u16; 1800])
-    requires { Numbered code.now from.at from.free × (n ≤ 65536) × (start < 4294967296) × (length out.old ≡ 1800) }
+    requires { Numbered code.now from.at from.free × (n ≤ 65536) × (start < 4294967296) }
     ensures { Puts out.old start (children_in n from.free (drop from.at code.now)) out.new }
 {
     let mut place = from;
@@ -45,7 +45,7 @@ fn put_children(code: &[u32], from: Place, n: usize, start: usize, out: &mut [u1
 
 // Puts the type that is made inside, the one before y, where there is one.
 fn put_last(out: &mut [u16; 1800], i: usize, y: usize, extra: usize)
-    requires { (length out.old ≡ 1800) × (extra ≤ y) × (y < 65536) }
+    requires { (extra ≤ y) × (y < 65536) }
     ensures { Puts out.old i (last_of extra y) out.new }
 {
     if extra != 0 {
@@ -94,7 +94,7 @@ fn write_row(
     out: &mut [u16; 1800],
 ) -> Counts
     requires { Numbered code.now from.at from.free × Small form.kind form.operands form.extra
-        × (form.extra ≤ from.free) × Low 2147483648 base at.types at.kids × (length out.old ≡ 1800) }
+        × (form.extra ≤ from.free) × Low 2147483648 base at.types at.kids }
     ensures { Wrote base (due_of due (row_of form.kind form.operands form.extra from.free (drop from.at code.now)))
         at.types at.kids out.old result.types result.kids out.new }
 {
@@ -139,7 +139,7 @@ fn write_word(
     at: Counts,
     out: &mut [u16; 1800],
 ) -> Counts
-    requires { (c < length code.now) × Numbered code.now c x × Low 1073741824 base at.types at.kids × (length out.old ≡ 1800) }
+    requires { (c < length code.now) × Numbered code.now c x × Low 1073741824 base at.types at.kids }
     ensures { Wrote base (rows_at later need x (get_or code.now c 0) (drop (c + 1) code.now))
         at.types at.kids out.old result.types result.kids out.new }
 {
@@ -182,7 +182,7 @@ pub fn write_pass(
     start: Counts,
     out: &mut [u16; 1800],
 ) -> Counts
-    requires { (length code.now ≤ 1280) × (x ≤ 256) × Low 536870912 base start.types start.kids × (length out.old ≡ 1800) }
+    requires { (length code.now ≤ 1280) × (x ≤ 256) × Low 536870912 base start.types start.kids }
     ensures { Wrote base (rows_in later 0 x code.now) start.types start.kids out.old
         result.types result.kids out.new }
 {

@@ -14,11 +14,10 @@ write_pass-requires c = let code = c.args.code.now in
         types_low = omega (arith, c.write_pass-next.ensures.types, all_rows_few false 0 declared code);
         kids_low = omega (arith, c.write_pass-next.ensures.kids, all_kids_few false 0 declared code);
       },
-      omega arith,
     )
 
 pub returns : goal.returns
 returns c = record {
   sized = omega arith;
-  table = λ ds h e n few short. table_stands ds n few short c.requires c.write_header.ensures (all_wrote h e c.write_pass-next.ensures c.write_pass.ensures);
+  table = λ ds h e n few short. table_stands ds n few short c.told-out c.write_header.ensures (all_wrote h e c.write_pass-next.ensures c.write_pass.ensures);
 }

@@ -11,5 +11,4 @@ write_row-requires c = (
   due_low c.own_due.result c.own_form.result.kind c.own_form.result.operands c.own_form.result.extra
       (c.inner-y.result + c.extra.result) (drop (c.args.c + 1) c.args.code.now)
       c.own_form.ensures.small.extra_few c.own_form.ensures.small.operands_few c.write_row-next.ensures c.requires.2,
-  omega arith,
 )
