@@ -1,22 +1,18 @@
 -- From lines that were put or read to what is written or read by a table and its labels. Assumes nothing.
-use Prim.Native.Nat.{ℕ, ◌+◌, ◌≤◌, ◌<◌}
-use mathlib.Core.Path.{◌≡◌, refl, ap, ◌∙◌, subst}
-use mathlib.Core.Logic.{◌≢◌, inl, inr}
-use mathlib.Core.List.{List, [], ◌++◌}
-use native.Mathlib.Omega.{arith}
-use lib.ListN.{length, get_or, take, drop, replicate, length-take, length-replicate, get_or-replicate, get_or-eq_default}
-use lib.Seq.{take-length}
+use Rattle.std.proofs.Common.{ℕ, ◌+◌, ◌≤◌, ◌<◌, ◌≡◌, refl, ap, ◌∙◌, subst, inl, inr, List, [], ◌++◌, arith, length, get_or, take, drop, replicate, length-take}
+use Rattle.std.proofs.Math.ListN.{length-replicate, get_or-replicate, get_or-eq_default}
+use Rattle.std.proofs.Math.Seq.{take-length}
 use Rattle.table.specs.declared.check.Check.TheVariants.{Total}
 use Rattle.table.specs.Privilege.{privileges}
 use Rattle.table.specs.Check.{Accepted}
-use Rattle.policy.specs.Marks.{Fit}
-use Rattle.policy.specs.Steps.Checking.{MarksAnswer, unfit, fit}
-use Rattle.policy.proofs.Policies.{unfit_number, marks_refused}
+use Rattle.policy.specs.Marks.{Fit, Unfit}
+use Rattle.policy.specs.Steps.Checking.{MarksAnswer}
+use Rattle.policy.proofs.Policies as policies
 use Rattle.grammar.proofs.Stopping.{le_or_lt}
 use Rattle.listing.proofs.Listings.{listing_one}
 use Rattle.mailing.specs.Steps.Putting.{Mailable, LinesPut}
 use Rattle.reading.specs.Steps.Reading.{Readable, LinesRead, faulty, listed}
-use Rattle.mail.specs.Answers.{Listed, Written, no_marks, no_room, written, ReadFrom, no_listing, no_room_for_marks, marks_read}
+use Rattle.mail.specs.Answers.{Listed, Written, no_marks, no_room, written, ReadFrom, no_room_for_marks, marks_read}
 use Rattle.mail.specs.Steps.Opened.{Sized}
 use Rattle.mail.proofs.One.{fault_number}
 
@@ -34,8 +30,8 @@ total : {ws : List ℕ} → Accepted ws → get_or ws 7 0 ≡ privileges ws
 total a = (a.passes Total 0 (omega arith)).stated
 
 module _ {label : ℕ → List ℕ} {ws : List ℕ} (a : Accepted ws) where
-  pub marks_off : {marks out : List ℕ} {v n p : ℕ} → v ≡ get_or ws 7 0 → n ≢ 0 → MarksAnswer 10 v marks n p → Written label ws marks out n p out
-  marks_off {marks} {n = n} {p = p} e d x = no_marks (marks_refused d (subst (λ (w : ℕ). MarksAnswer 10 w marks n p) (e ∙ total a) x)) refl
+  pub marks_off : {marks out : List ℕ} {v n p : ℕ} → v ≡ get_or ws 7 0 → Unfit 10 v marks n p → Written label ws marks out n p out
+  marks_off {marks} {n = n} {p = p} e u = no_marks (subst (λ (w : ℕ). Unfit 10 w marks n p) (e ∙ total a) u) refl
 
   -- the listing is longer than the result
   pub short_out : {marks out : List ℕ} {size : ℕ} → Fit (privileges ws) marks → Sized label ws marks size → length out < size
@@ -54,36 +50,24 @@ module _ {label : ℕ → List ℕ} {ws : List ℕ} (a : Accepted ws) where
       front : (l : List ℕ) → [] ++ take (length l) l ++ drop (0 + length l) out ≡ l ++ drop (length l) out
       front l = let z : 0 + length l ≡ length l = omega arith in rw (z, take-length l)
 
-  -- the lines were read
-  pub lines_off : {listing marks out : List ℕ} {n p : ℕ} → n ≢ 0 → LinesRead label ws listing n p marks → ReadFrom label ws listing out n p out
-  lines_off d (faulty f) = no_listing f refl
-  lines_off d (listed e z f x) = absurd (d e)
+  -- the lines were read, and are the listing of the marks at the front of the run
+  read_listed : {listing marks : List ℕ} {p : ℕ} → LinesRead label ws listing 0 p marks → (p ≡ 0) × Listed label ws (take (privileges ws) marks) listing
+  read_listed (faulty f) = absurd (omega (arith, fault_number f.fault))
+  read_listed (listed d z f x) = (z, record { fit = f; lists = x })
 
-  -- and are the listing of the marks at the front of the run
-  read_listed : {listing marks : List ℕ} {n p : ℕ} → n ≡ 0 → LinesRead label ws listing n p marks
-      → (p ≡ 0) × Listed label ws (take (privileges ws) marks) listing
-  read_listed e (faulty f) = absurd (omega (arith, fault_number f.fault))
-  read_listed e (listed d z f x) = (z, record { fit = f; lists = x })
+  pub marks_there : {listing marks : List ℕ} {v p : ℕ} → v ≡ get_or ws 7 0 → LinesRead label ws listing 0 p marks → v ≤ length marks
+  marks_there {marks = marks} q x = omega (arith, q, total a, (read_listed x).1.fit.size, length-take (privileges ws) marks)
 
-  pub marks_there : {listing marks : List ℕ} {v n p : ℕ} → v ≡ get_or ws 7 0 → n ≡ 0 → LinesRead label ws listing n p marks → v ≤ length marks
-  marks_there {marks = marks} q e x = omega (arith, q, total a, (read_listed e x).1.fit.size, length-take (privileges ws) marks)
-
-  pub short_marks : {listing marks out : List ℕ} {v n p : ℕ} → v ≡ get_or ws 7 0 → n ≡ 0 → LinesRead label ws listing n p marks → length out < v
+  pub short_marks : {listing marks out : List ℕ} {v p : ℕ} → v ≡ get_or ws 7 0 → LinesRead label ws listing 0 p marks → length out < v
       → ReadFrom label ws listing out 12 0 out
-  short_marks q e x h = no_room_for_marks (read_listed e x).1 (omega (arith, q, total a)) refl refl refl
+  short_marks q x h = no_room_for_marks (read_listed x).1 (omega (arith, q, total a)) refl refl refl
 
-  pub marks_put : {listing marks out after : List ℕ} {v n p : ℕ} → v ≡ get_or ws 7 0 → n ≡ 0 → LinesRead label ws listing n p marks → v ≤ length out
-      → after ≡ take v marks ++ drop v out → ReadFrom label ws listing out n p after
-  marks_put {marks = marks} {out = out} q e x h z =
+  pub marks_put : {listing marks out after : List ℕ} {v : ℕ} → v ≡ get_or ws 7 0 → LinesRead label ws listing 0 0 marks → v ≤ length out
+      → after ≡ take v marks ++ drop v out → ReadFrom label ws listing out 0 0 after
+  marks_put {marks = marks} {out = out} q x h z =
       let v = q ∙ total a in
-      let y = read_listed e x in
-      marks_read y.1 (omega (arith, v)) e y.0 (z ∙ ap (λ (k : ℕ). take k marks ++ drop k out) v)
+      marks_read (read_listed x).1 (omega (arith, v)) refl refl (z ∙ ap (λ (k : ℕ). take k marks ++ drop k out) v)
 
 -- marks that were checked by word 7
-pub marks_fit : {ws marks : List ℕ} {v n p : ℕ} → Accepted ws → v ≡ get_or ws 7 0 → n ≡ 0 → MarksAnswer 10 v marks n p → Fit (privileges ws) marks
-marks_fit {ws} {marks} {n = n} {p = p} a e z x =
-    go (subst (λ (w : ℕ). MarksAnswer 10 w marks n p) (e ∙ total a) x)
-  where
-    go : MarksAnswer 10 (privileges ws) marks n p → Fit (privileges ws) marks
-    go (unfit u) = absurd (omega (arith, unfit_number u))
-    go (fit f y q) = f
+pub marks_fit : {ws marks : List ℕ} {v p : ℕ} → Accepted ws → v ≡ get_or ws 7 0 → MarksAnswer 10 v marks 0 p → Fit (privileges ws) marks
+marks_fit {marks = marks} a e x = subst (λ (w : ℕ). Fit w marks) (e ∙ total a) (policies.marks_fit (omega arith) refl x)

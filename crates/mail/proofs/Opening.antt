@@ -1,14 +1,12 @@
 -- From a schema that was read to the answers of both calls. Assumes nothing.
-use Prim.Native.Nat.{ℕ, ◌-◌, ◌≤◌}
-use mathlib.Core.Path.{◌≡◌, refl, sym, ap, ◌∙◌, subst}
-use mathlib.Core.Logic.{◌≢◌, inl, inr}
-use mathlib.Core.List.{List, ◌∷◌, ◌++◌}
-use native.Mathlib.Omega.{arith}
-use lib.ListN.{length, get_or, take, drop, length-append}
-use lib.Seq.{take-append_seam}
+use Rattle.std.proofs.Common.{ℕ, ◌≤◌, ◌≡◌, refl, sym, ap, ◌∙◌, subst, ◌≢◌, inl, inr, List, ◌∷◌, ◌++◌, arith, length, get_or, take, drop, length-append}
+use Rattle.std.proofs.Math.Seq.{take-append_seam}
 use Rattle.table.specs.Words.{format_of, types}
 use Rattle.table.specs.Privilege.{privileges}
 use Rattle.table.specs.Check.{Accepted}
+use Rattle.table.specs.Refusals.{number_of, place_of}
+use Rattle.table.specs.declared.refusal.Refusal.{Refusal}
+use Rattle.table.proofs.Answers.{refusal_not}
 use Rattle.model.specs.Tables.{rules_of, kids_of_all, words_of, table_of}
 use Rattle.model.proofs.Words.{types_are}
 use Rattle.model.proofs.Shape.{table_length, format_is}
@@ -24,10 +22,7 @@ use Rattle.reading.specs.Steps.Reading.{Readable}
 use Rattle.mail.specs.Answers.{no_format, no_table, labels_of, Listed, Written, ReadFrom, no_marks, no_room, written, no_listing, no_room_for_marks, marks_read}
 use Rattle.mail.specs.Answers.{BySchema, no_schema, by_schema, WriteAnswer, ReadAnswer}
 use Rattle.mail.specs.Steps.Opened as steps
-use Rattle.mail.specs.Steps.Opened.{Opened, SchemaRead, Given}
-use Rattle.mail.specs.declared.Ask.{Ask}
-use Rattle.mail.specs.declared.Ask.TheVariants.{Write}
-use Rattle.mail.specs.declared.Ask.TheVariants as asks
+use Rattle.mail.specs.Steps.Opened.{Opened, SchemaRead}
 use Rattle.mail.proofs.Schemas.{names_short, types_few, schema_labelled}
 
 -- reading the text
@@ -106,37 +101,25 @@ module _ {t : List ℕ} {format : ℕ} {ws : List ℕ} (o : Opened t format ws) 
         go (marks_read d h i j z) = marks_read (listed_as d) h i j z
 
 -- a call on a run that a schema was read into
-module _ {t run : List ℕ} {format number place : ℕ} (x : SchemaRead t format number place run) where
-  pub schema_refused : {Told : (ℕ → List ℕ) → List ℕ → Type 0} {out : List ℕ} → number ≢ 0 → BySchema t format Told out number place out
-  schema_refused h = go x
+pub schema_refused : {t run out : List ℕ} {format : ℕ} {Told : (ℕ → List ℕ) → List ℕ → Type 0} (r : Refusal)
+    → SchemaRead t format (number_of r) (place_of r) run → BySchema t format Told out (number_of r) (place_of r) out
+schema_refused r (steps.refused d y) = no_schema y refl
+schema_refused r (steps.opened e v l o) = absurd (refusal_not r e)
+
+module _ {t run : List ℕ} {format place : ℕ} (x : SchemaRead t format 0 place run) where
+  all_there : (get_or run 1 0 ≤ length run) × Opened t format (take (get_or run 1 0) run)
+  all_there = go x
     where
-      go : {Told : (ℕ → List ℕ) → List ℕ → Type 0} {out : List ℕ} → SchemaRead t format number place run → BySchema t format Told out number place out
-      go (steps.refused d y) = no_schema y refl
-      go (steps.opened e v l o) = absurd (h e)
+      go : SchemaRead t format 0 place run → (get_or run 1 0 ≤ length run) × Opened t format (take (get_or run 1 0) run)
+      go (steps.refused d y) = absurd (d refl)
+      go (steps.opened z v l o) = (l, o)
 
-  module _ (e : number ≡ 0) {n : ℕ} (w : n ≡ get_or run 1 0) where
-    all_there : (get_or run 1 0 ≤ length run) × Opened t format (take (get_or run 1 0) run)
-    all_there = go x
-      where
-        go : SchemaRead t format number place run → (get_or run 1 0 ≤ length run) × Opened t format (take (get_or run 1 0) run)
-        go (steps.refused d y) = absurd (d e)
-        go (steps.opened z v l o) = (l, o)
+  module _ {n : ℕ} (w : n ≡ get_or run 1 0) where
+    there : Opened t format (take n run)
+    there = rw w all_there.1
 
-    pub words_there : n ≤ length run
-    words_there = omega (arith, w, all_there.0)
+    pub words_opened : Opened t (format_of (take n run)) (take n run)
+    words_opened = subst (λ (f : ℕ). Opened t f (take n run)) (sym (opened_format there)) there
 
-    there : Opened t format (take (n - 0) run)
-    there = let z : n - 0 ≡ get_or run 1 0 = omega arith in subst (λ (k : ℕ). Opened t format (take k run)) (sym z) all_there.1
-
-    pub words_opened : Opened t (format_of (take (n - 0) run)) (take (n - 0) run)
-    words_opened = subst (λ (f : ℕ). Opened t f (take (n - 0) run)) (sym (opened_format there)) there
-
-    pub words_format : format_of (take (n - 0) run) ≡ format
+    pub words_format : format_of (take n run) ≡ format
     words_format = opened_format there
-
--- by what was asked for
-pub given_write : {ask : Ask} {t given out after : List ℕ} {format n p : ℕ} → ask ≡ Write → WriteAnswer t format given out n p after → Given ask t format given out n p after
-given_write e x = rw e x
-
-pub given_read : {ask : Ask} {t given out after : List ℕ} {format n p : ℕ} → ask ≡ asks.Read → ReadAnswer t format given out n p after → Given ask t format given out n p after
-given_read e x = rw e x

@@ -1,10 +1,5 @@
 -- What a schema gives: names of at most 32 bytes, and labels that can be told apart. Assumes nothing.
-use Prim.Native.Nat.{ℕ, suc, ◌+◌, ◌≤◌, ◌<◌}
-use mathlib.Core.Path.{refl, ap}
-use mathlib.Core.Logic.{inl, inr}
-use mathlib.Core.List.{List, ◌∷◌}
-use native.Mathlib.Omega.{arith}
-use lib.ListN.{length, take, drop, length-take, length-drop, take-append-drop}
+use Rattle.std.proofs.Common.{ℕ, suc, ◌+◌, ◌≤◌, ◌<◌, refl, ap, inl, inr, List, ◌∷◌, arith, length, take, drop, length-take, length-drop, take-append-drop}
 use Rattle.table.specs.Words.{types}
 use Rattle.grammar.specs.Tree.{Declaration, Nth, first, later}
 use Rattle.grammar.specs.Grammar.{no_more, element, Items, a_space, a_comment, a_declaration}

@@ -4,34 +4,29 @@
 
 ghost use Rattle.std.specs.Prelude.{◌≡◌, length};
 ghost use Rattle.table.specs.Words.{format_of};
+ghost use Rattle.table.specs.Refusals.{number_in, place_in, no_place_in};
 ghost use Rattle.labels.specs.Steps.Booked.{label_in};
 ghost use Rattle.mailing.specs.Steps.Putting.{Mailable};
 ghost use Rattle.reading.specs.Steps.Reading.{Readable};
 ghost use Rattle.mail.specs.Answers.{Written, ReadFrom, WriteAnswer, ReadAnswer};
-ghost use Rattle.mail.specs.Steps.Opened.{Opened, SchemaRead, Sized, Given};
+ghost use Rattle.mail.specs.Steps.Opened.{Opened, SchemaRead, Sized};
 
 use dtd::read_format;
 use labels::put_labels;
 use mailing::put_lines;
-use policy::marks::{check_marks, copy};
+use policy::marks::check_marks;
 use reading::read_lines;
-use table::Checked;
 use table::words::{types, word_at};
+use table::{Check, Refusal};
 
-// Reads DTD text into a table of the format, whatever they are: 0 and V where the table stands at the front of the words, else why there is none.
-pub fn read_schema(text: &[u8], format: u16, words: &mut [u16]) -> Checked
+// Reads DTD text into a table of the format, whatever they are: V where the table stands at the front of the words, else why there is none.
+pub fn read_schema(text: &[u8], format: u16, words: &mut [u16]) -> Result<usize, Refusal>
     requires { length words.old ≡ 1800 }
-    ensures { SchemaRead text.now format result.number result.place words.new }
+    ensures { SchemaRead text.now format (number_in result) (place_in result) words.new }
 {
-    if format == 1 {
-        return read_format(text, format, words);
-    }
-    if format == 2 {
-        return read_format(text, format, words);
-    }
-    Checked {
-        number: 1,
-        place: 0,
+    match format {
+        1 | 2 => read_format(text, format, words),
+        _ => Err(Refusal::Table(Check::Format, 0)),
     }
 }
 
@@ -40,99 +35,97 @@ fn size_of(words: &[u16], names: &[u8], starts: &[u16], marks: &[u8]) -> usize
     requires { Mailable words.now names.now starts.now marks.now }
     ensures { Sized (label_in names.now starts.now) words.now marks.now result }
 {
-    let mut none = [0u8; 1];
-    put_lines(words, names, starts, marks, &mut none)
+    put_lines(words, names, starts, marks, &mut [])
 }
 
 // Writes the listing of marks by a table and the labels of its types.
-fn write_by(words: &[u16], names: &[u8], starts: &[u16], marks: &[u8], out: &mut [u8]) -> Checked
+fn write_by(
+    words: &[u16],
+    names: &[u8],
+    starts: &[u16],
+    marks: &[u8],
+    out: &mut [u8],
+) -> Result<usize, Refusal>
     requires { Readable words.now names.now starts.now }
-    ensures { Written (label_in names.now starts.now) words.now marks.now out.old result.number result.place out.new }
+    ensures { Written (label_in names.now starts.now) words.now marks.now out.old (number_in result) (place_in result) out.new }
 {
-    let fit = check_marks(marks, word_at(words, 7), 10);
-    if fit.number != 0 {
-        return fit;
-    }
+    check_marks(marks, word_at(words, 7))?;
     let size = size_of(words, names, starts, marks);
     if out.len() < size {
-        return Checked {
-            number: 12,
-            place: 0,
-        };
+        return Err(Refusal::ResultLength);
     }
     put_lines(words, names, starts, marks, out);
-    Checked {
-        number: 0,
-        place: size,
-    }
+    Ok(size)
 }
 
 // Reads a listing into marks by a table and the labels of its types.
-fn read_by(words: &[u16], names: &[u8], starts: &[u16], listing: &[u8], out: &mut [u8]) -> Checked
+fn read_by(
+    words: &[u16],
+    names: &[u8],
+    starts: &[u16],
+    listing: &[u8],
+    out: &mut [u8],
+) -> Result<(), Refusal>
     requires { Readable words.now names.now starts.now }
-    ensures { ReadFrom (label_in names.now starts.now) words.now listing.now out.old result.number result.place out.new }
+    ensures { ReadFrom (label_in names.now starts.now) words.now listing.now out.old (number_in result) (no_place_in result) out.new }
 {
     let mut marks = [0u8; 4096];
-    let told = read_lines(words, names, starts, listing, &mut marks);
-    if told.number != 0 {
-        return told;
-    }
+    read_lines(words, names, starts, listing, &mut marks)?;
     let v = word_at(words, 7);
     if out.len() < v {
-        return Checked {
-            number: 12,
-            place: 0,
-        };
+        return Err(Refusal::ResultLength);
     }
-    copy(&marks[0..v], &mut out[0..v]);
-    told
+    out[..v].copy_from_slice(&marks[..v]);
+    Ok(())
 }
 
-// What is asked for by a schema: the listing of marks, or the marks of a listing.
-#[derive(Clone, Copy)]
-enum Ask {
-    Write,
-    Read,
-}
-
-// Gives it, by a schema that was read. Both calls ask here, so that the labels are on the stack only when the text has been read.
-fn give(text: &[u8], words: &[u16], ask: Ask, given: &[u8], out: &mut [u8]) -> Checked
+// Writes the listing of marks by a schema that was read. Not inlined, so that the labels are on the stack only when the text has been read.
+#[inline(never)]
+fn write_opened(text: &[u8], words: &[u16], marks: &[u8], out: &mut [u8]) -> Result<usize, Refusal>
     requires { Opened text.now (format_of words.now) words.now }
-    ensures { Given ask text.now (format_of words.now) given.now out.old result.number result.place out.new }
+    ensures { WriteAnswer text.now (format_of words.now) marks.now out.old (number_in result) (place_in result) out.new }
 {
     let mut names = [0u8; 8192];
     let mut starts = [0u16; 257];
     put_labels(text, types(words), &mut names, &mut starts);
-    match ask {
-        Ask::Write => write_by(words, &names, &starts, given, out),
-        Ask::Read => read_by(words, &names, &starts, given, out),
-    }
+    write_by(words, &names, &starts, marks, out)
+}
+
+// Reads a listing by a schema that was read. Not inlined either.
+#[inline(never)]
+fn read_opened(text: &[u8], words: &[u16], listing: &[u8], out: &mut [u8]) -> Result<(), Refusal>
+    requires { Opened text.now (format_of words.now) words.now }
+    ensures { ReadAnswer text.now (format_of words.now) listing.now out.old (number_in result) (no_place_in result) out.new }
+{
+    let mut names = [0u8; 8192];
+    let mut starts = [0u16; 257];
+    put_labels(text, types(words), &mut names, &mut starts);
+    read_by(words, &names, &starts, listing, out)
 }
 
 // Writes the listing of marks, whatever they are, by DTD text and a format: refuses with 1, with what the text is refused with, or with 10, 11 or 12, and leaves the
-// result as it was; or answers 0 and the listing's length, writes it to the front of the result and keeps the rest.
-pub fn write_listing(text: &[u8], format: u16, marks: &[u8], out: &mut [u8]) -> Checked
-    ensures { WriteAnswer text.now format marks.now out.old result.number result.place out.new }
+// result as it was; or answers the listing's length, writes it to the front of the result and keeps the rest.
+pub fn write_listing(
+    text: &[u8],
+    format: u16,
+    marks: &[u8],
+    out: &mut [u8],
+) -> Result<usize, Refusal>
+    ensures { WriteAnswer text.now format marks.now out.old (number_in result) (place_in result) out.new }
 {
     let mut words = [0u16; 1800];
-    let schema = read_schema(text, format, &mut words);
-    if schema.number != 0 {
-        return schema;
-    }
+    read_schema(text, format, &mut words)?;
     let n = word_at(&words, 1);
-    give(text, &words[0..n], Ask::Write, marks, out)
+    write_opened(text, &words[..n], marks, out)
 }
 
 // Reads a listing, whatever it holds, by DTD text and a format: refuses with 1, with what the text is refused with, or with 25, 26 or 12, and leaves the result as
-// it was; or answers 0, writes the V marks to the front of the result and keeps the rest.
-pub fn read_listing(text: &[u8], format: u16, listing: &[u8], out: &mut [u8]) -> Checked
-    ensures { ReadAnswer text.now format listing.now out.old result.number result.place out.new }
+// it was; or writes the V marks to the front of the result and keeps the rest.
+pub fn read_listing(text: &[u8], format: u16, listing: &[u8], out: &mut [u8]) -> Result<(), Refusal>
+    ensures { ReadAnswer text.now format listing.now out.old (number_in result) (no_place_in result) out.new }
 {
     let mut words = [0u16; 1800];
-    let schema = read_schema(text, format, &mut words);
-    if schema.number != 0 {
-        return schema;
-    }
+    read_schema(text, format, &mut words)?;
     let n = word_at(&words, 1);
-    give(text, &words[0..n], Ask::Read, listing, out)
+    read_opened(text, &words[..n], listing, out)
 }

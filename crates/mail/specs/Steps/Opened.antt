@@ -4,9 +4,7 @@ use Rattle.table.specs.Privilege.{privileges}
 use Rattle.grammar.specs.Tree.{Declaration}
 use Rattle.model.specs.Tables.{table_of}
 use Rattle.listing.specs.Listing.{ListingOf}
-use Rattle.mail.specs.Answers.{Schema, NoSchema, WriteAnswer, ReadAnswer}
-use Rattle.mail.specs.declared.Ask.{Ask}
-use Rattle.mail.specs.declared.Ask.TheVariants.{Write, Read}
+use Rattle.mail.specs.Answers.{Schema, NoSchema}
 
 -- these words are the table of the text in this format
 pub record Opened (t : List ℕ) (format : ℕ) (words : List ℕ) : Type 0 where
@@ -26,8 +24,3 @@ pub record Sized (label : ℕ → List ℕ) (ws marks : List ℕ) (r : ℕ) : Ty
   pub lines : List ℕ
   pub lists : ListingOf label ws marks lines
   pub size : r ≡ length lines
-
--- what was asked for
-abbrev pub Given : Ask → List ℕ → ℕ → List ℕ → List ℕ → ℕ → ℕ → List ℕ → Type 0
-Given Write = WriteAnswer
-Given Read = ReadAnswer
