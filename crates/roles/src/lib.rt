@@ -6,15 +6,16 @@ ghost use Rattle.table.specs.Check.{Accepted};
 ghost use Rattle.table.specs.Privilege.{privileges};
 ghost use Rattle.table.specs.Steps.Found.{Tells};
 ghost use Rattle.table.specs.Steps.Order.{BottomUp};
+ghost use Rattle.verdict.specs.Results.{done_answer};
 ghost use Rattle.completion.specs.Steps.Passes.{HasFirsts};
 ghost use Rattle.roles.specs.Answers.{RoleAnswer, RolesCompleted, RolesAnswer};
 
 use completion::pass::complete_copy;
 use policy::marks::check_marks;
-use table::check_ordered;
 use table::privilege::first_privileges;
+use table::{Refusal, check_ordered};
+use verdict::Condition;
 use verdict::breaches::first_breach;
-use verdict::{Answer, Condition, refused};
 
 // Is a length that of so many stretches of v? The product can be more than a number holds.
 fn is_product(length: usize, stretches: usize, v: usize) -> bool
@@ -34,17 +35,15 @@ fn complete_role(
     requires { Accepted words.now × BottomUp words.now order.now × HasFirsts words.now firsts.now × (length marks.now ≡ privileges words.now) × (length out.old ≡ privileges words.now) }
     ensures { RoleAnswer words.now marks.now out.old result out.new }
 {
-    let fit = check_marks(marks, out.len(), 10);
-    if fit.number != 0 {
-        return fit.number as u16;
+    if let Err(misfit) = check_marks(marks, out.len()) {
+        return u16::from(Refusal::from(misfit).number());
     }
     let breach = first_breach(words, marks, order);
-    let condition = breach.condition;
-    if let Condition::None = condition {
-        complete_copy(words, marks, order, firsts, out);
-        return 0;
-    }
-    16
+    let Condition::None = breach.condition else {
+        return 16;
+    };
+    complete_copy(words, marks, order, firsts, out);
+    0
 }
 
 // Completes each role's marks into its own stretch, and writes its number.
@@ -74,21 +73,22 @@ fn complete_each(
 
 // Completes the policies of as many roles as there are numbers, over one table: refuses with 1 to 10, 12 or 19, or writes each role's number, 0, 11 or
 // 16, and the completed marks of each with 0 into its own stretch of the result. All else it keeps.
-pub fn complete_roles(words: &[u16], marks: &[u8], numbers: &mut [u16], out: &mut [u8]) -> Answer
-    ensures { RolesAnswer words.now marks.now numbers.old out.old result numbers.new out.new }
+pub fn complete_roles(
+    words: &[u16],
+    marks: &[u8],
+    numbers: &mut [u16],
+    out: &mut [u8],
+) -> Result<(), Refusal>
+    ensures { RolesAnswer words.now marks.now numbers.old out.old (done_answer result) numbers.new out.new }
 {
     let mut order = [0u8; 256];
-    let table = check_ordered(words, &mut order);
-    if table.number != 0 {
-        return refused(table.number, table.place);
-    }
-    let v = table.place;
+    let v = check_ordered(words, &mut order)?;
     if !is_product(marks.len(), numbers.len(), v) {
-        return refused(10, 0);
+        return Err(Refusal::MarksLength);
     }
     if out.len() < marks.len() {
-        return refused(12, 0);
+        return Err(Refusal::ResultLength);
     }
     complete_each(words, marks, v, &order, numbers, out);
-    refused(0, 0)
+    Ok(())
 }
