@@ -1,5 +1,5 @@
 -- Entering a name where it belongs in the list. Assumes nothing.
-use Rattle.std.proofs.Common.{ℕ, zero, suc, ◌+◌, ◌*◌, ◌≤◌, ◌<◌, ◌≡◌, refl, ◌∙◌, ◌≢◌, ◌⊎◌, inl, inr, List, arith, length, get_or, set, length-set, get_or-set_same, get_or-set_other}
+use Rattle.std.proofs.Common.{ℕ, zero, suc, ◌+◌, ◌*◌, ◌≤◌, ◌<◌, min, ◌≡◌, refl, ◌∙◌, ◌≢◌, ◌⊎◌, inl, inr, List, arith, length, get_or, set, length-set, get_or-set_same, get_or-set_other}
 use Rattle.grammar.specs.Tree.{Declaration, Nth}
 use Rattle.grammar.proofs.Stopping.{le_or_lt}
 use Rattle.names.specs.Steps.Walk.{NameAt}
@@ -116,13 +116,16 @@ inserted {before} {mid} k count a q h l s = record {
     on : (j i : ℕ) → i ≡ j + 2 → 2 * k ≤ j → j < 2 * count → get_or (set (set mid (2 * k) a) (2 * k + 1) q) i 0 ≡ get_or before j 0
     on j i e g o = other i (λ z. omega arith) (λ z. omega arith) ∙ rw e (s.moved j g o)
 
-pub entered : {t before mid : List ℕ} {k count a q : ℕ} → length before ≡ 512 → count ≤ 255 → RankRead t before count a k → BeforeRead t before k a count q
+pub entered : {t before mid : List ℕ} {k count a q : ℕ} → length before ≡ 512 → count < 256 → RankRead t before (min count 256) a k → BeforeRead t before k a count q
     → Shifted 2 before mid (2 * k) (2 * count) → Entered t before count a (set (set mid (2 * k) a) (2 * k + 1) q)
-entered {t} {before} {mid} {k} {count} {a} {q} l c x y s = record {
-  size = length-set (set mid (2 * k) a) (2 * k + 1) q ∙ length-set mid (2 * k) a ∙ s.kept;
-  of = λ ds d m p h b z. (let r = x.of ds d.named z p in
-      listed_entered z x.within m p r (first m (y.of ds d.named count z p x.within r)) (inserted k count a q x.within (omega arith) s));
-}
+entered {t} {before} {mid} {k} {count} {a} {q} l c w y s =
+    let e : min count 256 ≡ count = omega arith in
+    let x : RankRead t before count a k = rw e at w in
+    record {
+      size = length-set (set mid (2 * k) a) (2 * k + 1) q ∙ length-set mid (2 * k) a ∙ s.kept;
+      of = λ ds d m p h b z. (let r = x.of ds d.named z p in
+          listed_entered z x.within m p r (first m (y.of ds d.named count z p x.within r)) (inserted k count a q x.within (omega arith) s));
+    }
   where
     first : {ds : List Declaration} {d : Declaration} → Nth ds count d → Looked ds d.named count count q → FirstWith ds d.named q
     first m (found f) = f

@@ -3,7 +3,7 @@ ghost use Rattle.std.specs.Prelude.{◌≤◌, length};
 ghost use Rattle.names.specs.Steps.Uses.{UsesRead};
 ghost use Rattle.names.specs.Steps.Wrong.{UnknownRead, WrongRead};
 
-use crate::list::number;
+use crate::list::NameList;
 use crate::walk::name_end;
 use scan::bytes::{Class, is, is_of};
 use scan::piece::blanks;
@@ -24,8 +24,8 @@ fn first_use(s: &[u8], body: usize) -> usize
 }
 
 // The first name up to '>' that is never declared.
-fn first_unknown(s: &[u8], list: &[u16; 512], count: usize, at: usize) -> Option<usize>
-    ensures { UnknownRead s.now list.now count at result }
+fn first_unknown(s: &[u8], names: &NameList, at: usize) -> Option<usize>
+    ensures { UnknownRead s.now names.now.entries names.now.count at result }
 {
     let mut i = at;
     // A while: a name is passed as a whole.
@@ -34,7 +34,7 @@ fn first_unknown(s: &[u8], list: &[u16; 512], count: usize, at: usize) -> Option
             return None;
         }
         if is_of(s, i, Class::Start) {
-            if number(s, list, count, i) < count {
+            if names.number(s, i) < names.count {
                 i = name_end(s, i);
             } else {
                 return Some(i);
@@ -49,17 +49,16 @@ fn first_unknown(s: &[u8], list: &[u16; 512], count: usize, at: usize) -> Option
 // The first name of declaration m that is declared before, or used and never declared.
 pub(crate) fn first_wrong(
     s: &[u8],
-    list: &[u16; 512],
-    count: usize,
+    names: &NameList,
     m: usize,
     name: usize,
     body: usize,
 ) -> Option<usize>
     requires { body ≤ length s.now }
-    ensures { WrongRead s.now list.now count m name body result }
+    ensures { WrongRead s.now names.now.entries names.now.count m name body result }
 {
-    if number(s, list, count, name) < m {
+    if names.number(s, name) < m {
         return Some(name);
     }
-    first_unknown(s, list, count, first_use(s, body))
+    first_unknown(s, names, first_use(s, body))
 }

@@ -4,7 +4,7 @@ use Rattle.names.specs.Steps.Wrong.{UnknownRead}
 use Rattle.names.proofs.misnamed.first_unknown.Given as goal
 
 abbrev pub invariant-loop-i : goal.invariant-loop-i
-invariant-loop-i l = (r : Option ℕ) → UnknownRead l.s l.list l.count l.i r → UnknownRead l.s l.list l.count l.at r
+invariant-loop-i l = (r : Option ℕ) → UnknownRead l.s l.names.entries l.names.count l.i r → UnknownRead l.s l.names.entries l.names.count l.at r
 
 abbrev pub decreases-loop-i : goal.decreases-loop-i
 decreases-loop-i l = length l.s - l.i

@@ -2,7 +2,7 @@
 use Rattle.std.proofs.Common.{◌+◌, ◌-◌, ◌*◌, arith, ◌≡◌}
 use Rattle.scan.proofs.Told.{yes_told, no_told}
 use Rattle.names.proofs.Finding.{before_first, before_hit, before_miss}
-use Rattle.names.proofs.list.number_before.Goals as goal
+use Rattle.names.proofs.list.NameList.number_before.Goals as goal
 
 pub returns-then-k-eq0 : goal.returns-then-k-eq0
 returns-then-k-eq0 c = before_first (omega arith)

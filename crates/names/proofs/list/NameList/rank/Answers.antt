@@ -2,7 +2,7 @@
 use Rattle.std.proofs.Common.{◌≡◌, ◌+◌, ◌-◌, ◌/◌, add-one, arith}
 use Rattle.scan.proofs.Told.{yes_told, no_told}
 use Rattle.names.proofs.Finding.{ranked_up, ranked_down}
-use Rattle.names.proofs.list.rank.Goals as goal
+use Rattle.names.proofs.list.NameList.rank.Goals as goal
 
 pub loop-low-preserved-then-upto : goal.loop-low-preserved-then-upto
 loop-low-preserved-then-upto c = let mid = c.loop-low.low + (c.loop-low.high - c.loop-low.low) / 2 in (

@@ -1,6 +1,0 @@
--- All declarations are listed, so what the list has is all there is. Assumes nothing.
-use Rattle.names.proofs.Finding.{number_read}
-use Rattle.names.proofs.list.number.Goals as goal
-
-pub returns : goal.returns
-returns c = number_read c.min.ensures c.rank-k.ensures c.number_before.ensures
