@@ -1,17 +1,15 @@
 -- The conditions as they are asked: what a search at one type tells of each, beside what was known, and what a pass over the types has shown. Assumes
 -- nothing.
-use Prim.Native.Nat.{ℕ, ◌+◌, ◌≤◌, ◌<◌}
-use mathlib.Core.Path.{◌≡◌, refl, sym, ap, subst, subst⁻¹, ◌∙◌}
+use Prim.Native.Nat.{ℕ, ◌+◌, ◌<◌}
+use mathlib.Core.Path.{◌≡◌, refl, sym, ap, subst, ◌∙◌}
 use mathlib.Core.Logic.{◌≢◌, ◌⊎◌, inl, inr, ⊎_elim}
-use mathlib.Core.Bool.{Bool, true, false, ◌&&◌, ◌||◌, false≢true, and-eq-true_iff}
+use mathlib.Core.Bool.{Bool, true, false, false≢true}
 use mathlib.Core.List.{List}
-use Rattle.std.proofs.Common.{Option, Some, is_some}
-use Rattle.std.proofs.Common as std
 use native.Mathlib.Nat.{eq-or-lt_of_le}
 use native.Mathlib.Omega.{arith}
 use lib.ListN.{length, get_or}
 use Rattle.table.specs.Words.{types}
-use Rattle.table.specs.Rule.{IsChoice, IsStar, count_of, child_at}
+use Rattle.table.specs.Rule.{IsChoice, count_of, child_at}
 use Rattle.table.specs.Check.{Accepted}
 use Rattle.table.specs.Lex.{Lex, less, same}
 use Rattle.table.specs.Steps.Found.{Tells}
@@ -21,32 +19,25 @@ use Rattle.table.proofs.Facts.{facts}
 use Rattle.policy.proofs.Reaches.{reached_from}
 use Rattle.verdict.specs.Breaches.{condition_number, CycleBreach, BreachOf, key, FirstSpot}
 use Rattle.verdict.specs.Steps.Spoils.{Flagged, Agree}
-use Rattle.verdict.specs.Steps.Visits.{Visited, Searched, BreachAt, CycleAt}
+use Rattle.verdict.specs.Steps.Visits.{Visited, BreachAt, CycleAt}
 use Rattle.verdict.specs.declared.Spot.{Spot}
 use Rattle.verdict.specs.declared.Condition.{Condition}
 use Rattle.verdict.specs.declared.Condition.TheVariants.{InsertDelete, Chain, Cycle}
 use Rattle.verdict.proofs.Firsts.{breach_type}
-use Rattle.verdict.proofs.Breached.{star_only, choice_only}
+use Rattle.verdict.proofs.Breached.{choice_only}
 use Rattle.verdict.proofs.Flagged.{breach_as}
 use Rattle.verdict.proofs.Spoiling.{breach_spoils}
 use Rattle.broken.specs.Breaks.{Breaks}
 use Rattle.broken.specs.Steps.Asking.{BreaksAt, Asked, Added, BrokenIn}
 use Rattle.broken.specs.declared.Broken.{Broken}
 
--- a flag beside one that was known: that one was up, or nothing is added, or what was asked is
+-- a flag beside one that was known: that one was up, or nothing is added
 module _ (P : Type 0) (known : Bool) where
   pub flag_up : known ≡ true → Tells ((known ≡ true) ⊎ P) known
   flag_up e = rw e (inl refl)
 
   pub flag_kept : ¬ P → Tells ((known ≡ true) ⊎ P) known
   flag_kept n = tells_by known inl (λ f. ⊎_elim (λ e. false≢true (sym f ∙ e)) n)
-
-  flag_asked : (r : Bool) → known ≡ false → Tells P r → Tells ((known ≡ true) ⊎ P) r
-  flag_asked r f = tells_as inr (⊎_elim (λ e. absurd (false≢true (sym f ∙ e))) (λ p. p)) r
-
-flag_joined : (P : Type 0) (known r : Bool) → Tells P r → Tells ((known ≡ true) ⊎ P) (known || r)
-flag_joined P true r t = inl refl
-flag_joined P false r t = flag_asked P false r refl t
 
 -- what a flag tells beside a known one, it tells of both
 flag_more : (P Q : Type 0) (known r : Bool) → Tells P known → Tells ((known ≡ true) ⊎ Q) r → Tells (P ⊎ Q) r
@@ -92,20 +83,6 @@ module _ (ws marks : List ℕ) (B : ℕ → ℕ → Type 0) where
       split : (c : Condition) → Before (x + 1) c → Before x c ⊎ BreaksAt ws marks B (λ y. y ≡ x) c
       split c b = elim (eq-or-lt_of_le b.here) [ inl e ↦ inr (at_as b (omega arith)) | inr l ↦ inl (at_as b (omega arith)) ]
 
-  -- where each condition is broken before x, each is broken before any number from x on
-  pub before_all : {x n : ℕ} {r : Broken} → x ≤ n → (r.insert_delete && r.chain && r.cycle) ≡ true → Asked (Before x) r → Asked (Before n) r
-  before_all {x} {n} {r} l e a =
-      let two = (and-eq-true_iff (r.insert_delete && r.chain) r.cycle).0 e in
-      let one = (and-eq-true_iff r.insert_delete r.chain).0 two.0 in
-      record {
-        insert_delete = up InsertDelete r.insert_delete one.0 a.insert_delete;
-        chain = up Chain r.chain one.1 a.chain;
-        cycle = up Cycle r.cycle two.1 a.cycle;
-      }
-    where
-      up : (c : Condition) (k : Bool) → k ≡ true → Tells (Before x c) k → Tells (Before n c) k
-      up c k e t = let b = told_yes k t e in rw e (at_as b (omega (arith, b.here)))
-
   -- what is broken at type x
   module _ (x : ℕ) where
     abbrev At : Condition → Type 0
@@ -122,21 +99,7 @@ module _ (ws marks : List ℕ) (B : ℕ → ℕ → Type 0) where
     cycle_at : (b : At Cycle) → CycleAt ws marks B x b.spot b.privilege
     cycle_at b = record { of_cycle = b.of; breach = subst (λ (c : Condition). BreachOf ws marks B c b.spot b.privilege) b.of b.breach; here = b.here }
 
-    pub cycle_told : (found : Option Spot) → Searched (CycleAt ws marks B x) found → Tells (At Cycle) (is_some found)
-    cycle_told std.None n = λ b. n b.spot b.privilege (cycle_at b)
-    cycle_told (Some s) f =
-        let p = f.broken.0 in
-        let h = f.broken.1 in
-        record { spot = s; privilege = p; of = h.of_cycle; breach = subst⁻¹ (λ (c : Condition). BreachOf ws marks B c s p) h.of_cycle h.breach; here = h.here }
-
-    -- at a star condition 1 alone can be broken, at a choice the others
-    module _ (star : IsStar ws x) where
-      star_one : {c : Condition} → At c → c ≡ InsertDelete
-      star_one b = sym b.of ∙ (star_only ws marks B x star b.spot b.privilege (breach_at b)).0
-
-      pub star_some : {s : Spot} → FirstSpot (BreachAt ws marks B x) s → At InsertDelete
-      star_some {s} f = broken_at f (star_only ws marks B x star s f.broken.0 f.broken.1).0
-
+    -- at a choice condition 1 is not broken
     module _ (choice : IsChoice ws x) where
       choice_not : (s : Spot) (p : ℕ) → BreachAt ws marks B x s p → s.condition ≢ InsertDelete
       choice_not s p h e = elim (choice_only ws marks B x choice s p h) [
@@ -145,12 +108,6 @@ module _ (ws marks : List ℕ) (B : ℕ → ℕ → Type 0) where
       ]
 
       module _ {s : Spot} (found : FirstSpot (BreachAt ws marks B x) s) where
-        pub star_never : s.condition ≢ InsertDelete
-        star_never e = choice_not s found.broken.0 found.broken.1 e
-
-        pub chain_some : s.condition ≡ Chain → At Chain
-        chain_some e = broken_at found e
-
         -- a chain would have come before a cycle
         pub cycle_only : s.condition ≡ Cycle → At Cycle × ¬ At Chain
         cycle_only e = (broken_at found e, λ b. found.first b.spot b.privilege (breach_at b) (before b))
@@ -160,23 +117,8 @@ module _ (ws marks : List ℕ) (B : ℕ → ℕ → Type 0) where
                 let l : condition_number b.spot.condition < condition_number s.condition = omega (arith, ap condition_number b.of, ap condition_number e) in
                 rw (b.here, found.broken.1.here) (same (less l))
 
-    -- what is broken at type x is added to what was known: nothing, or condition 1 at a star, or the others at a choice
+    -- what is broken at a choice is added to what was known
     module _ (known : Broken) where
-      pub added_none : ((s : Spot) (p : ℕ) → ¬ BreachAt ws marks B x s p) → Added At known known
-      added_none n = record {
-        insert_delete = flag_kept (At InsertDelete) known.insert_delete (λ b. n b.spot b.privilege (breach_at b));
-        chain = flag_kept (At Chain) known.chain (λ b. n b.spot b.privilege (breach_at b));
-        cycle = flag_kept (At Cycle) known.cycle (λ b. n b.spot b.privilege (breach_at b));
-      }
-
-      pub star_added : IsStar ws x → {star : Bool} → Tells ((known.insert_delete ≡ true) ⊎ At InsertDelete) star
-          → Added At known (record { insert_delete = star; chain = known.chain; cycle = known.cycle })
-      star_added h t = record {
-        insert_delete = t;
-        chain = flag_kept (At Chain) known.chain (λ b. omega (arith, ap condition_number (star_one h b)));
-        cycle = flag_kept (At Cycle) known.cycle (λ b. omega (arith, ap condition_number (star_one h b)));
-      }
-
       pub choice_added : IsChoice ws x → {chain cycle : Bool} → Tells ((known.chain ≡ true) ⊎ At Chain) chain → Tells ((known.cycle ≡ true) ⊎ At Cycle) cycle
           → Added At known (record { insert_delete = known.insert_delete; chain = chain; cycle = cycle })
       choice_added h c d = record {
@@ -188,15 +130,6 @@ module _ (ws marks : List ℕ) (B : ℕ → ℕ → Type 0) where
       -- where there is a chain, and no cycle
       pub no_cycle_added : IsChoice ws x → known.chain ≡ true → ¬ At Cycle → Added At known known
       no_cycle_added h c n = choice_added h (flag_up (At Chain) known.chain c) (flag_kept (At Cycle) known.cycle n)
-
-      -- where there is a chain, a cycle is asked by itself
-      pub cycle_added : IsChoice ws x → known.chain ≡ true → known.cycle ≡ false → (cycle : Bool) → Tells (At Cycle) cycle
-          → Added At known (record { insert_delete = known.insert_delete; chain = known.chain; cycle = cycle })
-      cycle_added h c d cycle t = choice_added h (flag_up (At Chain) known.chain c) (flag_asked (At Cycle) known.cycle cycle d t)
-
-      pub chain_added : IsChoice ws x → At Chain → (cycle : Bool) → Tells (At Cycle) cycle
-          → Added At known (record { insert_delete = known.insert_delete; chain = true; cycle = known.cycle || cycle })
-      chain_added h b cycle t = choice_added h (inr b) (flag_joined (At Cycle) known.cycle cycle t)
 
 -- the children of a type that is visited are all there, and their numbers are indices
 kids_here : {ws marks : List ℕ} {x : ℕ} {kids : List ℕ} → Visited ws marks x kids → length kids ≡ count_of ws x

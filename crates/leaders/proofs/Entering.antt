@@ -6,33 +6,12 @@ use mathlib.Core.List.{List, [], ◌∷◌}
 use native.Mathlib.Nat.{eq-or-lt_of_le}
 use native.Mathlib.Omega.{arith}
 use borrow.Author.Count.{below_none, below_more}
-use borrow.Author.Tests.{ltb-true, ltb-false}
-use lib.Dec.{ltb}
 use lib.ListN.{length, get_or, get_or-eq_default}
-use Rattle.table.specs.Steps.Found.{Tells}
 use Rattle.table.proofs.Lists.{le_or_lt}
-use Rattle.table.proofs.Lowest.{tells_by}
 use Rattle.table.proofs.Test.{settle, some, is_equal}
 use Rattle.leaders.specs.Leaders.{Ahead, more}
 use Rattle.leaders.specs.Steps.Entering.{LeadersBelow, Behind, Bar}
 use Rattle.leaders.proofs.Ahead.{ahead_never, ahead_lower, ahead_most}
-
--- below 0 nobody leads
-pub leaders_start : {often : ℕ → ℕ} → LeadersBelow often 0 (0 ∷ 0 ∷ 0 ∷ [])
-leaders_start = record {
-  size = refl;
-  many = refl;
-  inside = λ k h. absurd (omega arith);
-  order = λ j k h i. absurd (omega arith);
-  others = λ p k h. absurd (omega arith);
-  unused = λ k h. nothing k;
-}
-  where
-    nothing : (k : ℕ) → ◌≡◌ {A = ℕ} (get_or (0 ∷ 0 ∷ 0 ∷ []) k 0) 0
-    nothing zero = refl
-    nothing (suc zero) = refl
-    nothing (suc (suc zero)) = refl
-    nothing (suc (suc (suc k))) = refl
 
 -- of under three numbers all lead
 all_lead : {often : ℕ → ℕ} {p : ℕ} {l : List ℕ} → LeadersBelow often p l → p ≤ 2 → (q : ℕ) → q < p → ((j : ℕ) → j < p → get_or l j 0 ≢ q) → ⊥
@@ -154,10 +133,6 @@ module _ {often : ℕ → ℕ} {p k : ℕ} {l m : List ℕ} (led : LeadersBelow 
     unused = λ i n. elim (le_or_lt 3 i) [ inl h ↦ get_or-eq_default m 0 (omega (arith, put.size)) | inr h ↦ nobody (stands put i h) n h ];
   }
 
--- a flag that tells whether the leader at place k comes less often
-pub tells_behind : (often : ℕ → ℕ) {p k : ℕ} (l : List ℕ) (a b : ℕ) → k < min 3 p → a ≡ often (get_or l k 0) → b ≡ often p → Tells (Behind often p l k) (ltb a b)
-tells_behind often l a b h e f = tells_by (ltb a b) (λ t. record { less = λ i. omega (arith, ltb-true a b t) }) (λ t d. omega (arith, ltb-false a b t, d.less h))
-
 -- where it does not, a leader stands there and comes as often
 not_behind : {often : ℕ → ℕ} {p k : ℕ} {l : List ℕ} → ¬ Behind often p l k → (k < min 3 p) × (often p ≤ often (get_or l k 0))
 not_behind {often} {p} {k} {l} d = elim (le_or_lt (min 3 p) k) [
@@ -189,9 +164,6 @@ module _ {often : ℕ → ℕ} {p : ℕ} {l : List ℕ} (led : LeadersBelow ofte
 
 -- the bar: who reaches it comes more often than the third leader; who does not comes behind all three
 module _ {often : ℕ → ℕ} {p bar : ℕ} {l : List ℕ} (at : Bar often p l bar) where
-  pub bar_reached : bar ≤ often p → Behind often p l 2
-  bar_reached h = record { less = λ i. omega (arith, at.full (omega arith)) }
-
   three : often p < bar → 3 ≤ p
   three h = elim (le_or_lt 3 p) [ inl i ↦ i | inr i ↦ absurd (omega (arith, at.few i)) ]
 

@@ -11,7 +11,7 @@ use Rattle.table.specs.declared.privilege.Numbering.{Numbering}
 use Rattle.table.proofs.Privileges.{replaceable_in, in_replaceable, replace_in_lem}
 use Rattle.policy.specs.Marks.{Allowed}
 use Rattle.policy.specs.Reached.{Reached}
-use Rattle.policy.specs.Renewed.{Renewed, by_both, Barred}
+use Rattle.policy.specs.Renewed.{Renewed, by_both}
 use Rattle.policy.specs.Steps.Squares.{Square}
 use Rattle.policy.proofs.SquareLaws.{marked_told, told_marked}
 use Rattle.policy.proofs.Reaches.{reached_from, reached_to}
@@ -59,12 +59,9 @@ module _ (ws marks : List ℕ) (B : ℕ → ℕ → Type 0) (x : ℕ) where
     broken_here : (s : Spot) (p : ℕ) → BreachAt ws marks B x s p → StarBroken ws marks B x p
     broken_here s p b = rw b.here at (star_only star s p b).1.broken
 
-    -- a child that cannot be renewed, or neither the exchange forbidden nor anything below: no breach
+    -- a child that cannot be renewed: no breach
     pub star_closed : ¬ Renewed ws (Allowed marks) x → (s : Spot) (p : ℕ) → ¬ BreachAt ws marks B x s p
     star_closed d s p b = elim (broken_here s p b) [ at_exchange f q ↦ d (by_both f.both) | at_below f r w ↦ d r ]
-
-    pub star_free : ¬ Barred ws marks x → ((q : ℕ) → ¬ B (child_at ws x 0) q) → (s : Spot) (p : ℕ) → ¬ BreachAt ws marks B x s p
-    star_free d n s p b = elim (broken_here s p b) [ at_exchange f q ↦ d f | at_below f r w ↦ n p w ]
 
     pub star_first : {p : ℕ} → StarBroken ws marks B x p → Searched (BreachAt ws marks B x) (Some (star_spot x))
     star_first {p} f = record {
@@ -159,9 +156,6 @@ module _ (ws marks : List ℕ) (B : ℕ → ℕ → Type 0) (x : ℕ) where
   -- cycles, position by position: those before i have none
   abbrev pub CyclesFrom : ℕ → Type 0
   CyclesFrom i = (s : Spot) (p : ℕ) → CycleAt ws marks B x s p → i ≤ s.i
-
-  pub cycles_start : CyclesFrom 0
-  cycles_start s p h = omega arith
 
   pub cycles_more : {i : ℕ} → CyclesFrom i → ((p : ℕ) → Reached ws (Allowed marks) x i i → ¬ B (child_at ws x i) p) → CyclesFrom (i + 1)
   cycles_more {i} g d s p h =

@@ -20,18 +20,16 @@ use Rattle.policy.specs.Reached.{Step}
 use Rattle.policy.specs.Renewed.{Renewed, Barred}
 use Rattle.policy.specs.Steps.Renewing.{BarredIn, RenewalIn}
 use Rattle.policy.specs.declared.renew.Renewal.{Renewal}
-use Rattle.chain.specs.Chain.{Fewest, chain_of, ShortestChain}
+use Rattle.chain.specs.Chain.{Fewest}
 use Rattle.chain.specs.declared.Chain.{Chain as Chained}
 use Rattle.chain.proofs.Chains.{fewest_short, chain_places}
 use Rattle.verdict.specs.Below.{ForbiddenBelow, ForbiddenTally}
-use Rattle.verdict.specs.Breaches.{condition_number, spot_of, chain_in, StarBroken, at_exchange, at_below, InsertDeleteBreach, ChainBreach, CycleBreach, BreachOf, BreachBy, IsBreach, FirstSpot, StepsOf, ChainAt, FirstBreach, Verdict, clean, broken}
+use Rattle.verdict.specs.Breaches.{spot_of, chain_in, StarBroken, at_exchange, at_below, InsertDeleteBreach, ChainBreach, CycleBreach, BreachOf, BreachBy, IsBreach, FirstSpot, StepsOf, ChainAt, FirstBreach, Verdict, clean, broken}
 use Rattle.verdict.specs.Breaches.{PassesOn, star, replace, chain, cycle}
-use Rattle.verdict.specs.Steps.Visits.{star_spot}
 use Rattle.verdict.specs.Steps.Breakers.{BreakerAt}
 use Rattle.verdict.specs.Steps.Breakers as breaker
 use Rattle.verdict.specs.declared.Breach.{Breach}
 use Rattle.verdict.specs.declared.Spot.{Spot}
-use Rattle.verdict.specs.declared.breaches.Breaker.{Breaker}
 use Rattle.verdict.specs.declared.breaches.Breaker.TheVariants.{Own, Below}
 use Rattle.verdict.specs.declared.Condition.{Condition}
 use Rattle.verdict.specs.declared.Condition.TheVariants.{InsertDelete, Chain, Cycle}
@@ -128,13 +126,6 @@ module _ (ws marks : List ℕ) where
       tally_cycle : {l c : ℕ} → Tallied (IsBreach ws marks s) (privileges ws) l c → Tallied (Here (child_at ws s.element s.i)) (privileges ws) l c
       tally_cycle = tallied_as (λ q k. cycle_out q) (λ q k. cycle_into q)
 
-  -- what breaks a star does so at its spot
-  pub breaker_star : {s : Spot} {r : Breaker} → s.condition ≡ InsertDelete → BreakerAt ws marks (star_spot s.element) r → BreakerAt ws marks s r
-  breaker_star e (breaker.exchange f b is) = breaker.exchange e b is
-  breaker_star e (breaker.replacement f is) = absurd (omega (arith, ap condition_number f))
-  breaker_star e (breaker.star f d l is) = breaker.star e d l is
-  breaker_star e (breaker.cycle f l is) = absurd (omega (arith, ap condition_number f))
-
   -- the child that is asked for is a type
   pub breaker_type : {s : Spot} {y : ℕ} → BreakerAt ws marks s (Below y) → y < types ws
   breaker_type (breaker.star e d l is) = l
@@ -152,20 +143,6 @@ module _ (ws marks : List ℕ) where
     pub child_tally : {y l c : ℕ} → BreakerAt ws marks s (Below y) → Tallied (Here y) (privileges ws) l c → Tallied (IsBreach ws marks s) (privileges ws) l c
     child_tally (breaker.star e d l is) t = let g = broken_here InsertDelete e in star_tally s e g (below_tally d (star_renewed d g.broken) (rw is at t))
     child_tally (breaker.cycle e l is) t = cycle_tally s e (broken_here Cycle e) (rw is at t)
-
-  -- the chain of a spot, by its condition
-  module _ {s : Spot} {c : Chained} where
-    chain_of_lem : {k : Condition} → s.condition ≡ k → (ps : List ℕ) → StepsOf ws marks k s ps → c ≡ chain_of ps → ChainAt ws marks s c
-    chain_of_lem e ps h are = record { positions = ps; steps = subst⁻¹ (λ (k : Condition). StepsOf ws marks k s ps) e h; are = are }
-
-    pub no_steps : s.condition ≡ InsertDelete → c ≡ chain_of [] → ChainAt ws marks s c
-    no_steps e are = chain_of_lem e [] refl are
-
-    pub chain_steps : s.condition ≡ Chain → ShortestChain (Step ws (Allowed marks) s.element) s.i s.j c → ChainAt ws marks s c
-    chain_steps e h = chain_of_lem e h.positions h.fewest h.is
-
-    pub cycle_steps : s.condition ≡ Cycle → s.j ≡ s.i → ShortestChain (Step ws (Allowed marks) s.element) s.i s.i c → ChainAt ws marks s c
-    cycle_steps e same h = chain_of_lem e h.positions (subst⁻¹ (λ (k : ℕ). Fewest (Step ws (Allowed marks) s.element) s.i k h.positions) same h.fewest) h.is
 
   -- the first breach is the first spot with what breaks it and its chain
   pub tally_first : {b : Breach} → FirstSpot (IsBreach ws marks) (spot_of b) → Tallied (IsBreach ws marks (spot_of b)) (privileges ws) b.privilege b.forbidden

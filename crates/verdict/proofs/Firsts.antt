@@ -111,10 +111,6 @@ module _ (ws marks : List ℕ) (B : ℕ → ℕ → Type 0) where
   pub clean_all : CleanBefore (types ws) → (s : Spot) (p : ℕ) → ¬ BreachBy ws marks B s p
   clean_all h s p b = omega (arith, h s p b, breach_type s p b)
 
-  -- a broken spot is of a condition
-  pub broken_some : (s : Spot) (p : ℕ) → BreachBy ws marks B s p → s.condition ≢ None
-  broken_some s p h e = subst (λ (c : Condition). BreachOf ws marks B c s p) e h
-
   -- what was found at one type: none, or the first
   pub at_none : {x : ℕ} → Searched (BreachAt ws marks B x) std.None → (t : Spot) (p : ℕ) → BreachBy ws marks B t p → t.element ≢ x
   at_none n t p h q = n t p (record { breach = h; here = q })
@@ -187,9 +183,3 @@ module _ (ws marks : List ℕ) where
   pub verdict_broken : {b : Breach} → Verdict ws marks b → b.condition ≢ None → FirstBreach ws marks b
   verdict_broken (clean q e) d = absurd (d (ap (λ (a : Breach). a.condition) e))
   verdict_broken (broken f) d = f
-
--- the tags of the conditions but None
-pub no_tag : (◌≡◌ {A = ℕ} 0 1) ⊎ (◌≡◌ {A = ℕ} 0 2) ⊎ (◌≡◌ {A = ℕ} 0 3) → ⊥
-no_tag (inl e) = omega arith
-no_tag (inr (inl e)) = omega arith
-no_tag (inr (inr e)) = omega arith

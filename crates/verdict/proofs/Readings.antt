@@ -28,7 +28,7 @@ use Rattle.verdict.specs.declared.below.Tally.{Tally}
 use Rattle.verdict.specs.declared.breaches.Breaker.{Breaker}
 use Rattle.verdict.specs.declared.breaches.Breaker.TheVariants.{Own, Below}
 use Rattle.verdict.proofs.Flagged.{breach_can}
-use Rattle.verdict.proofs.Breakers.{breaker_type, own_tally, child_tally, tally_first}
+use Rattle.verdict.proofs.Breakers.{own_tally, child_tally, tally_first}
 
 -- a flag tells whether there is something by what is kept
 pub kept_flag : (kept : List ℕ) (t : ℕ) {r : ℕ} → FlagOf (entry_of kept t).count r → Flag (KeptBelow kept t) r
@@ -93,11 +93,6 @@ module _ (ws marks kept : List ℕ) (b : Breach) (f : FirstSpot (BreachBy ws mar
     made (breaker.replacement e is) g = let a = alone g in (by_replacement e (a.0 ∙ is), chain e a.1)
     made (breaker.star e d i is) g = let a = are g is in (by_child e d a, star e d (told _ a))
     made (breaker.cycle e i is) g = let a = are g is in (by_cycle e a, cycle e (told _ a))
-
--- a child that is asked for is a type
-pub child_in : (ws marks : List ℕ) (s : Spot) (r : Breaker) → BreakerAt ws marks s r → ChildIn ws r
-child_in ws marks s (Own p) d = refl
-child_in ws marks s (Below y) d = breaker_type ws marks d
 
 kept_broken : (ws marks kept : List ℕ) (s : Spot) {r : Breaker} {t : Tally} {b : Breach} → FirstSpot (BreachBy ws marks (KeptBelow kept)) s → BreakerAt ws marks s r
     → KeptOf kept r t → BreachWith ws marks s t b → KeptBreach ws marks kept b
