@@ -3,10 +3,11 @@
 #![tactic(auto)]
 
 ghost use Rattle.std.specs.Prelude.{◌≡◌};
+ghost use Rattle.table.specs.Refusals.{number_of, place_of};
 ghost use Rattle.sheet.specs.Answers.{no_figures, refusal, with_leaders, MonthAnswer};
 
 use leaders::{Leaders, leaders_of};
-use table::check_ordered;
+use table::{Refusal, check_ordered};
 
 mod counts;
 mod roles;
@@ -49,12 +50,12 @@ pub fn no_figures() -> Figures
 }
 
 // A refusal: all but number and place is 0.
-pub fn refused(number: usize, place: usize) -> Sheet
-    ensures { result ≡ refusal number place }
+pub fn refused(why: Refusal) -> Sheet
+    ensures { result ≡ refusal (number_of why) (place_of why) }
 {
     Sheet {
-        number,
-        place,
+        number: usize::from(why.number()),
+        place: why.place(),
         figures: no_figures(),
         leader_count: 0,
         leaders: [0usize; 3],
@@ -81,17 +82,16 @@ pub fn month_sheet(words: &[u16], roles: u32, marks: &[u8], counts: &mut [u32]) 
     ensures { MonthAnswer words.now roles marks.now counts.old result counts.new }
 {
     let mut order = [0u8; 256];
-    let table = check_ordered(words, &mut order);
-    if table.number != 0 {
-        return refused(table.number as usize, table.place);
-    }
-    let v = table.place;
+    let v = match check_ordered(words, &mut order) {
+        Ok(v) => v,
+        Err(refusal) => return refused(refusal),
+    };
     if marks.len() != roles as usize * v {
-        return refused(10, 0);
+        return refused(Refusal::MarksLength);
     }
     let n = 3 * v;
     if counts.len() < n {
-        return refused(12, 0);
+        return refused(Refusal::ResultLength);
     }
     let figures = count_roles(words, roles, marks, v, &order, &mut counts[0..n]);
     done_with(figures, leaders_of(&counts[0..n]))
