@@ -2,4 +2,5 @@
 pub mod Agreed
 pub mod AnyRun
 pub mod Results
+mod Known
 pub mod Demands

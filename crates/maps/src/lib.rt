@@ -6,42 +6,34 @@ ghost use Rattle.std.specs.Prelude.{◌≡◌, List, ℕ, take};
 ghost use Rattle.table.specs.Privilege.{privileges};
 ghost use Rattle.table.specs.Steps.Order.{BottomUp};
 ghost use Rattle.policy.specs.Marks.{Policy};
+ghost use Rattle.verdict.specs.Results.{judged_answer, counted_answer, accepted_answer, completed_answer};
 ghost use Rattle.completion.specs.Steps.Passes.{Filled};
 ghost use Rattle.mending.specs.Mends.{Mends};
 ghost use Rattle.proposing.specs.Answers.{ProposeAnswer};
 ghost use Rattle.pairs.specs.Maps.{maps, maps_of, Paired, MapPolicy, marks_for, Roomy, before};
+ghost use Rattle.pairs.specs.Faults.{proposed_refusal};
 ghost use Rattle.pairs.specs.Steps.Spelling.{Holds};
 ghost use Rattle.maps.specs.Answers.{JudgeMapsAnswer, CompleteMapsAnswer, MendMapsAnswer, ProposeMapsAnswer};
 
 use completion::pass::complete_all;
 use mending::mend_types::mend_all;
 use pairs::changes::{count_changes, lowest_change};
-use pairs::check::{check_maps, check_pair, is_roomy};
+use pairs::check::{PairFault, check_maps, check_pair, is_roomy};
 use pairs::spelling::{spell, write_maps};
-use table::Found;
+use table::Refusal;
 use table::privilege::first_privileges;
 use verdict::breaches::first_breach;
-use verdict::{Answer, Condition, done_with, refused};
+use verdict::{Breach, Condition, Rejection};
 
-// Judges a policy: refuses with the table's numbers, 10, 23 or 24, or answers 0 with the first breach, none where it is clean.
-pub fn judge_maps(words: &[u16], allowed: &[u8], forbidden: &[u8]) -> Answer
-    ensures { JudgeMapsAnswer words.now (maps allowed.now forbidden.now) result }
+// Judges a policy: refuses with the table's numbers, 10, 23 or 24, or answers the first breach, none where it is clean.
+pub fn judge_maps(words: &[u16], allowed: &[u8], forbidden: &[u8]) -> Result<Breach, Refusal>
+    ensures { JudgeMapsAnswer words.now (maps allowed.now forbidden.now) (judged_answer result) }
 {
     let mut order = [0u8; 256];
-    let checked = check_maps(words, allowed, forbidden, &mut order);
-    if checked.number != 0 {
-        return refused(checked.number, checked.place);
-    }
-    let v = checked.place;
+    let v = check_maps(words, allowed, forbidden, &mut order)?;
     let mut marks = [0u8; 4096];
     spell(allowed, forbidden, &mut marks);
-    let first = first_breach(words, &marks[0..v], &order);
-    Answer {
-        number: 0,
-        place: 0,
-        count: 0,
-        breach: first,
-    }
+    Ok(first_breach(words, &marks[0..v], &order))
 }
 
 // Completes the marks of a policy in place, and writes their maps. The order holds each type after its children.
@@ -70,32 +62,22 @@ pub fn complete_maps(
     forbidden: &[u8],
     out_allowed: &mut [u8],
     out_forbidden: &mut [u8],
-) -> Answer
-    ensures { CompleteMapsAnswer words.now (maps allowed.now forbidden.now) (maps out_allowed.old out_forbidden.old) result (maps out_allowed.new out_forbidden.new) }
+) -> Result<(), Rejection>
+    ensures { CompleteMapsAnswer words.now (maps allowed.now forbidden.now) (maps out_allowed.old out_forbidden.old) (completed_answer result) (maps out_allowed.new out_forbidden.new) }
 {
     let mut order = [0u8; 256];
-    let checked = check_maps(words, allowed, forbidden, &mut order);
-    if checked.number != 0 {
-        return refused(checked.number, checked.place);
-    }
-    let v = checked.place;
+    let v = check_maps(words, allowed, forbidden, &mut order)?;
     if !is_roomy(out_allowed, out_forbidden, v) {
-        return refused(12, 0);
+        return Err(Rejection::Refused(Refusal::ResultLength));
     }
     let mut marks = [0u8; 4096];
     spell(allowed, forbidden, &mut marks);
     let breach = first_breach(words, &marks[0..v], &order);
-    let condition = breach.condition;
-    if let Condition::None = condition {
-        complete_into(words, &mut marks, v, &order, out_allowed, out_forbidden);
-        return refused(0, 0);
-    }
-    Answer {
-        number: 16,
-        place: 0,
-        count: 0,
-        breach: breach,
-    }
+    let Condition::None = breach.condition else {
+        return Err(Rejection::Broken(breach));
+    };
+    complete_into(words, &mut marks, v, &order, out_allowed, out_forbidden);
+    Ok(())
 }
 
 // Mends the marks of a policy in place, writes their maps, and counts the marks taken. The order holds each type after its children.
@@ -123,21 +105,17 @@ pub fn mend_maps(
     forbidden: &[u8],
     out_allowed: &mut [u8],
     out_forbidden: &mut [u8],
-) -> Answer
-    ensures { MendMapsAnswer words.now (maps allowed.now forbidden.now) (maps out_allowed.old out_forbidden.old) result (maps out_allowed.new out_forbidden.new) }
+) -> Result<usize, Refusal>
+    ensures { MendMapsAnswer words.now (maps allowed.now forbidden.now) (maps out_allowed.old out_forbidden.old) (counted_answer result) (maps out_allowed.new out_forbidden.new) }
 {
     let mut order = [0u8; 256];
-    let checked = check_maps(words, allowed, forbidden, &mut order);
-    if checked.number != 0 {
-        return refused(checked.number, checked.place);
-    }
-    let v = checked.place;
+    let v = check_maps(words, allowed, forbidden, &mut order)?;
     if !is_roomy(out_allowed, out_forbidden, v) {
-        return refused(12, 0);
+        return Err(Refusal::ResultLength);
     }
     let mut marks = [0u8; 4096];
     spell(allowed, forbidden, &mut marks);
-    done_with(mend_into(words, &mut marks, v, &order, out_allowed, out_forbidden))
+    Ok(mend_into(words, &mut marks, v, &order, out_allowed, out_forbidden))
 }
 
 // Judges a proposed pair of maps: refuses with 15 or 16, or accepts it with the number of changed marks. The order holds each type after its children.
@@ -149,32 +127,31 @@ fn judge_pair(
     proposed_forbidden: &[u8],
     v: usize,
     order: &[u8; 256],
-) -> Answer
+) -> Result<usize, Rejection>
     requires { MapPolicy words.now (maps allowed.now forbidden.now) × Paired (privileges words.now) (maps proposed_allowed.now proposed_forbidden.now) × (v ≡ privileges words.now) × BottomUp words.now order.now }
-    ensures { ProposeAnswer words.now (marks_for words.now (maps allowed.now forbidden.now)) (marks_for words.now (maps proposed_allowed.now proposed_forbidden.now)) result }
+    ensures { ProposeAnswer words.now (marks_for words.now (maps allowed.now forbidden.now)) (marks_for words.now (maps proposed_allowed.now proposed_forbidden.now)) (accepted_answer result) }
 {
     let found = lowest_change(allowed, forbidden, proposed_allowed, proposed_forbidden, v);
-    if let Found::At(place) = found {
-        return refused(15, place);
+    if let Some(p) = found {
+        return Err(Rejection::Refused(Refusal::Change(p)));
     }
     let mut marks = [0u8; 4096];
     spell(proposed_allowed, proposed_forbidden, &mut marks);
     let breach = first_breach(words, &marks[0..v], order);
-    let condition = breach.condition;
-    if let Condition::None = condition {
-        return done_with(count_changes(
-            allowed,
-            forbidden,
-            proposed_allowed,
-            proposed_forbidden,
-            v,
-        ));
-    }
-    Answer {
-        number: 16,
-        place: 0,
-        count: 0,
-        breach: breach,
+    let Condition::None = breach.condition else {
+        return Err(Rejection::Broken(breach));
+    };
+    Ok(count_changes(allowed, forbidden, proposed_allowed, proposed_forbidden, v))
+}
+
+// What is wrong with a proposed pair, as a refusal.
+fn proposed_refusal(fault: PairFault) -> Refusal
+    ensures { result ≡ proposed_refusal fault }
+{
+    match fault {
+        PairFault::Length => Refusal::ProposedLength,
+        PairFault::Both(p) => Refusal::ProposedMark(p),
+        PairFault::SpareBit => Refusal::ProposedSpareBit,
     }
 }
 
@@ -185,18 +162,13 @@ pub fn judge_mend_maps(
     forbidden: &[u8],
     proposed_allowed: &[u8],
     proposed_forbidden: &[u8],
-) -> Answer
-    ensures { ProposeMapsAnswer words.now (maps allowed.now forbidden.now) (maps proposed_allowed.now proposed_forbidden.now) result }
+) -> Result<usize, Rejection>
+    ensures { ProposeMapsAnswer words.now (maps allowed.now forbidden.now) (maps proposed_allowed.now proposed_forbidden.now) (accepted_answer result) }
 {
     let mut order = [0u8; 256];
-    let checked = check_maps(words, allowed, forbidden, &mut order);
-    if checked.number != 0 {
-        return refused(checked.number, checked.place);
-    }
-    let v = checked.place;
-    let fit = check_pair(proposed_allowed, proposed_forbidden, v, 13, 14, 14);
-    if fit.number != 0 {
-        return refused(fit.number, fit.place);
+    let v = check_maps(words, allowed, forbidden, &mut order)?;
+    if let Err(fault) = check_pair(proposed_allowed, proposed_forbidden, v) {
+        return Err(Rejection::Refused(proposed_refusal(fault)));
     }
     judge_pair(
         words,

@@ -14,10 +14,11 @@ use lib.Pow.{shr-shr, shr_lt}
 use Rattle.table.specs.Privilege.{privileges}
 use Rattle.table.specs.Steps.Found.{Tells}
 use Rattle.table.proofs.Lists.{le_or_lt}
-use Rattle.table.proofs.Answers.{answer_one, accepted_answer, lowest_one}
+use Rattle.table.proofs.Answers.{answer_one, accepted_answer, lowest_one, refusal_not}
 use Rattle.policy.proofs.Bits.{none_shared}
 use Rattle.std.specs.Prelude.{Err}
 use Rattle.table.specs.Refusals.{number_of, place_of}
+use Rattle.table.specs.declared.refusal.Refusal.{Refusal}
 use Rattle.pairs.specs.declared.check.PairFault.{PairFault}
 use Rattle.pairs.specs.declared.check.PairFault.TheVariants.{Length, Both, SpareBit}
 use Rattle.pairs.specs.Faults.{refusal_of, proposed_refusal, fault_number, fault_place}
@@ -158,3 +159,7 @@ module _ {ws : List ℕ} {m : Maps} where
   pub maps_fit : {n p : ℕ} → n ≡ 0 → MapsAnswer ws m n p → MapPolicy ws m × (p ≡ privileges ws)
   maps_fit e (refused r) = absurd (no_maps_number r e)
   maps_fit e (fits pol f v) = (pol, v)
+
+  -- a refusal is one
+  pub maps_none : (r : Refusal) → MapsAnswer ws m (number_of r) (place_of r) → NoMaps ws m (number_of r) (place_of r)
+  maps_none r = maps_refused (refusal_not r)
