@@ -1,7 +1,7 @@
 // The chain of a breach: the fewest allowed replacements from one position to another. Contracts cite specs/Chain, and specs/Steps/Ways for the parts.
 #![tactic(auto)]
 
-ghost use Rattle.std.specs.Prelude.{◌≡◌, [], ◌≤◌, length};
+ghost use Rattle.std.specs.Prelude.{◌≡◌, [], ◌≤◌};
 ghost use Rattle.table.specs.Plus.{Plus};
 ghost use Rattle.table.specs.Rule.{IsChoice};
 ghost use Rattle.table.specs.Steps.Numbering.{NumberedAs};
@@ -33,7 +33,7 @@ pub fn no_chain() -> Chain
 
 // The fewest steps of the rows from i to j; for each number of steps below it, a word of the positions from which so many lead to j.
 fn fewest_steps(rows: &[u16; 16], n: usize, i: usize, j: usize, sets: &mut [u16; 16]) -> usize
-    requires { (n ≤ 16) × Plus (Marked n rows.now) i j × (length sets.old ≡ 16) }
+    requires { (n ≤ 16) × Plus (Marked n rows.now) i j }
     ensures { Distances (Marked n rows.now) n i j sets.new result }
 {
     let end = only(j);

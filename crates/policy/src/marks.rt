@@ -75,7 +75,6 @@ pub fn check_marks(marks: &[u8], v: usize) -> Result<(), Misfit>
 
 // Checks a table, and then marks for it: V, or the first of 1 to 11 and 19 with its place. With V the order holds the types, each after its children.
 pub fn check_policy(words: &[u16], marks: &[u8], order: &mut [u8; 256]) -> Result<usize, Refusal>
-    requires { length order.old ≡ 256 }
     ensures { OrderedPolicy words.now marks.now order.new (number_in result) (place_in result) }
 {
     let v = check_ordered(words, order)?;

@@ -39,7 +39,7 @@ fn read_each(
     allowed: &mut [u16; 16],
     forbidden: &mut [u16; 16],
 )
-    requires { Room n marks.now × (i < n.count) × (at ≡ row_in n i) × (length allowed.old ≡ 16) × (length forbidden.old ≡ 16) }
+    requires { Room n marks.now × (i < n.count) × (at ≡ row_in n i) }
     ensures { RowRead marks.now n i allowed.old forbidden.old allowed.new forbidden.new }
 {
     let own = width(n);
@@ -58,7 +58,7 @@ fn read_at_once(
     allowed: &mut [u16; 16],
     forbidden: &mut [u16; 16],
 )
-    requires { Readable n marks.now × (i < n.count) × (at ≡ row_in n i) × (at + 16 ≤ length marks.now) × (length allowed.old ≡ 16) × (length forbidden.old ≡ 16) }
+    requires { Readable n marks.now × (i < n.count) × (at ≡ row_in n i) × (at + 16 ≤ length marks.now) }
     ensures { RowRead marks.now n i allowed.old forbidden.old allowed.new forbidden.new }
 {
     let own = width(n);
@@ -77,7 +77,7 @@ fn read_row(
     allowed: &mut [u16; 16],
     forbidden: &mut [u16; 16],
 )
-    requires { Readable n marks.now × (i < n.count) × (length allowed.old ≡ 16) × (length forbidden.old ≡ 16) }
+    requires { Readable n marks.now × (i < n.count) }
     ensures { RowRead marks.now n i allowed.old forbidden.old allowed.new forbidden.new }
 {
     let at = row_at(n, i);
@@ -90,7 +90,7 @@ fn read_row(
 
 // Reads the marks of a choice by its numbering.
 pub fn read_rows(marks: &[u8], n: Numbering, allowed: &mut [u16; 16], forbidden: &mut [u16; 16])
-    requires { Readable n marks.now × (length allowed.old ≡ 16) × (length forbidden.old ≡ 16) }
+    requires { Readable n marks.now }
     ensures { Read marks.now n allowed.new forbidden.new }
 {
     for i in 0..n.count {
@@ -187,7 +187,7 @@ pub fn leading_into(rows: &[u16; 16], n: usize, word: u16) -> u16
 
 // Makes the bit at k of row i the other one.
 pub fn toggle(rows: &mut [u16; 16], i: usize, k: usize)
-    requires { (length rows.old ≡ 16) × (i < 16) × (k < 16) }
+    requires { (i < 16) × (k < 16) }
     ensures { Toggled i k rows.old rows.new }
 {
     rows[i] ^= 1 << k;
@@ -203,7 +203,7 @@ fn joined(old: u16, row: u16, k: usize) -> u16
 
 // Joins each row that leads to k with row k.
 pub(crate) fn join(rows: &mut [u16; 16], k: usize)
-    requires { (length rows.old ≡ 16) × (k < 16) }
+    requires { k < 16 }
     ensures { Joined k rows.old rows.new }
 {
     let row = rows[k];

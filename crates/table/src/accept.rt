@@ -52,7 +52,7 @@ fn totals_fit(words: &[u16], children: usize, privileges: usize) -> bool
 // Stamps and counts every type's children. Yes: checks 3 to 7 and 9 pass, and the counts are right. Of the childless kinds, empty, 0, has no
 // privilege, and text, 1, has one.
 fn types_pass(words: &[u16], stamps: &mut [u16; 256], counts: &mut [u16; 256]) -> bool
-    requires { Laid words.now × (length stamps.old ≡ 256) × (counts.old ≡ replicate 256 0) }
+    requires { Laid words.now × (counts.old ≡ replicate 256 0) }
     ensures { result ≡ true → TypesPass words.now counts.new }
 {
     let gap = gap_of(words);
@@ -91,7 +91,6 @@ fn types_pass(words: &[u16], stamps: &mut [u16; 256], counts: &mut [u16; 256]) -
 
 // Does the table pass every check? Yes is right, and gives the order of its types; where it says no, the checks are searched by rank.
 pub fn is_accepted(words: &[u16], order: &mut [u8; 256]) -> bool
-    requires { length order.old ≡ 256 }
     ensures { Accepting words.now order.new result }
 {
     if !is_headed(words) || !is_laid(words) {

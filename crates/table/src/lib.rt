@@ -2,7 +2,6 @@
 // Contracts cite specs/Check for what a table must hold, and the other files of specs/ for what its words mean.
 #![tactic(auto)]
 
-ghost use Rattle.std.specs.Prelude.{◌≡◌, length};
 ghost use Rattle.table.specs.Check.{TableAnswer};
 ghost use Rattle.table.specs.Refusals.{number_in, place_in};
 ghost use Rattle.table.specs.Steps.Accepting.{OrderedAnswer};
@@ -23,7 +22,6 @@ pub use refusal::Refusal;
 
 // Checks a run of words as check_table does. Where it is a table, the order then holds its types, each after its children.
 pub fn check_ordered(words: &[u16], order: &mut [u8; 256]) -> Result<usize, Refusal>
-    requires { length order.old ≡ 256 }
     ensures { OrderedAnswer words.now order.new (number_in result) (place_in result) }
 {
     if accept::is_accepted(words, order) {

@@ -1,5 +1,5 @@
 // An order of the types in which every type comes after its children. Contracts cite specs/Steps/Order, and specs/Steps/Counts for the way there.
-ghost use Rattle.std.specs.Prelude.{◌≡◌, ◌+◌, ◌≤◌, length, replicate};
+ghost use Rattle.std.specs.Prelude.{◌≡◌, ◌+◌, ◌≤◌, replicate};
 ghost use Rattle.table.specs.Check.{Accepted};
 ghost use Rattle.table.specs.Steps.Childed.{Childed};
 ghost use Rattle.table.specs.Steps.Counts.{Counts, Filling};
@@ -50,7 +50,7 @@ fn pass(
 // Is no type on a cycle, and each reached from the root? Types are taken, the root first and each other one when all its parents are passed: where
 // all can be taken, they stand in the order.
 pub fn is_ordered(words: &[u16], counts: &mut [u16; 256], order: &mut [u8; 256]) -> bool
-    requires { Childed words.now × Counts words.now counts.old × (length order.old ≡ 256) }
+    requires { Childed words.now × Counts words.now counts.old }
     ensures { Ordering words.now order.new result }
 {
     let root = word_at(words, 3);
@@ -70,7 +70,7 @@ pub fn is_ordered(words: &[u16], counts: &mut [u16; 256], order: &mut [u8; 256])
 
 // Writes the types of a table, each after its children, a byte for each.
 pub fn bottom_up(words: &[u16], order: &mut [u8; 256])
-    requires { Accepted words.now × (length order.old ≡ 256) }
+    requires { Accepted words.now }
     ensures { BottomUp words.now order.new }
 {
     let mut counts = [0u16; 256];

@@ -94,7 +94,7 @@ pub(crate) fn privileges(words: &[u16]) -> usize
 
 // Writes the first privilege of each type of a table, and leaves what stands behind the types.
 pub fn first_privileges(words: &[u16], firsts: &mut [u16; 256])
-    requires { Accepted words.now × (length firsts.old ≡ 256) }
+    requires { Accepted words.now }
     ensures { Firsts words.now firsts.old firsts.new }
 {
     let e = types(words);

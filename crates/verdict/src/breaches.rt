@@ -364,7 +364,7 @@ fn breach_of(words: &[u16], marks: &[u8], kept: &[u16], spot: Spot) -> Breach
 
 // Flags each type below which something is forbidden, or of which something is kept where entries are lent.
 fn flag_by(words: &[u16], marks: &[u8], order: &[u8; 256], kept: &[u16], flags: &mut [u8; 256])
-    requires { Policy words.now marks.now × BottomUp words.now order.now × Lent words.now kept.now × (length flags.old ≡ 256) }
+    requires { Policy words.now marks.now × BottomUp words.now order.now × Lent words.now kept.now }
     ensures { FlagsBy words.now marks.now kept.now flags.old flags.new }
 {
     if kept.is_empty() {

@@ -17,7 +17,7 @@ fn flag_of(count: u16) -> u8
 
 // Flags each type of which the count is not 0.
 pub(crate) fn flag_kept(words: &[u16], kept: &[u16], flags: &mut [u8; 256])
-    requires { (types words.now ≤ 256) × (2 * types words.now ≤ length kept.now) × (length flags.old ≡ 256) }
+    requires { (types words.now ≤ 256) × (2 * types words.now ≤ length kept.now) }
     ensures { Flags words.now (KeptBelow kept.now) flags.old flags.new }
 {
     let e = types(words);

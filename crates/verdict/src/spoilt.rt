@@ -25,7 +25,7 @@ fn flag_from(marks: &[u8], from: usize, until: usize) -> u8
 
 // Flags each type of which a privilege of its own is forbidden.
 fn own_flags(words: &[u16], marks: &[u8], flags: &mut [u8; 256])
-    requires { Policy words.now marks.now × (length flags.old ≡ 256) }
+    requires { Policy words.now marks.now }
     ensures { Flags words.now (ForbiddenOwn words.now marks.now) flags.old flags.new }
 {
     let gap = gap_of(words);
@@ -54,7 +54,7 @@ pub fn flag_over(kids: &[u16], flags: &[u8; 256], own: u8) -> u8
 
 // Flags each type below which something is forbidden. The order holds each type after its children.
 pub fn flag_spoilt(words: &[u16], marks: &[u8], order: &[u8; 256], flags: &mut [u8; 256])
-    requires { Policy words.now marks.now × BottomUp words.now order.now × (length flags.old ≡ 256) }
+    requires { Policy words.now marks.now × BottomUp words.now order.now }
     ensures { Flags words.now (ForbiddenBelow words.now marks.now) flags.old flags.new }
 {
     let e = types(words);

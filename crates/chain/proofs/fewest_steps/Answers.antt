@@ -18,7 +18,7 @@ leading_into-word-requires c = (c.requires.0, (level_start {R = Marked c.args.n 
 pub loop-sets-init : goal.loop-sets-init
 loop-sets-init c =
     let ends = level_start {R = Marked c.args.n c.args.rows.now} (plus_to c.requires.1) c.requires.0 c.only-end.ensures in
-    grown_start c.args.sets.now c.requires.2 (plus_to c.requires.1) ends (level_more ends c.leading_into-word.ensures)
+    grown_start c.args.sets.now c.told-sets (plus_to c.requires.1) ends (level_more ends c.leading_into-word.ensures)
 
 pub has-requires : goal.has-requires
 has-requires c = omega (arith, plus_from c.requires.1)

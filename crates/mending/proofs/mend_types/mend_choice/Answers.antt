@@ -1,5 +1,5 @@
 -- Each turn takes what the rule takes next, moves its bit from one square to the other, and one mark less is allowed. Assumes nothing.
-use Rattle.std.proofs.Common.{refl, arith}
+use Rattle.std.proofs.Common.{arith}
 use Rattle.policy.proofs.SquareLaws.{policy_readable}
 use Rattle.mending.specs.Steps.Taking.{start}
 use Rattle.mending.proofs.Staying.{next_within, next_less, mending_take, mending_few}
@@ -8,7 +8,7 @@ use Rattle.mending.proofs.mend_types.mend_choice.Goals as goal
 
 pub read_rows-requires : goal.read_rows-requires
 read_rows-requires c = let v = c.requires.0 in
-    (policy_readable v.policy c.requires.1 v.numbered, refl, refl)
+    policy_readable v.policy c.requires.1 v.numbered
 
 pub loop-i-init : goal.loop-i-init
 loop-i-init c = let v = c.requires.0 in

@@ -14,7 +14,7 @@ was_read : (ws : List ℕ) (n : ℕ) {kind first index count : ℕ} → Widened 
 was_read ws n k f same c r = record { kind_is = k; first_is = rw same at f; count_is = c; low = r.0; right = r.1 }
 
 pub loop-t-init : goal.loop-t-init
-loop-t-init c = rw c.requires.2 (types_start _ c.requires.1)
+loop-t-init c = rw c.requires.1 (types_start _ c.told-stamps)
 
 pub loop-t-preserved-then-count-eq0 : goal.loop-t-preserved-then-count-eq0
 loop-t-preserved-then-count-eq0 c =

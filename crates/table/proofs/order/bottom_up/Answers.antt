@@ -5,10 +5,10 @@ use Rattle.table.proofs.Rooted.{ordered_up}
 use Rattle.table.proofs.order.bottom_up.Goals as goal
 
 pub count_parents-requires : goal.count_parents-requires
-count_parents-requires c = (accepted_childed c.requires.0, refl)
+count_parents-requires c = (accepted_childed c.requires, refl)
 
 pub is_ordered-requires : goal.is_ordered-requires
-is_ordered-requires c = (accepted_childed c.requires.0, c.count_parents.ensures, c.requires.1)
+is_ordered-requires c = (accepted_childed c.requires, c.count_parents.ensures)
 
 pub returns : goal.returns
-returns c = ordered_up c.is_ordered.ensures (accepted_ordered c.requires.0)
+returns c = ordered_up c.is_ordered.ensures (accepted_ordered c.requires)

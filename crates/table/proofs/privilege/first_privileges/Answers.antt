@@ -10,22 +10,22 @@ use Rattle.table.proofs.privilege.first_privileges.Goals as goal
 pub loop-x-init : goal.loop-x-init
 loop-x-init c = record {
   first_is = sym (first_start _);
-  size = c.requires.1;
+  size = c.told-firsts;
   written = search rules;
   rest = search rules;
 }
 
 pub overflow_cast-firsts : goal.overflow_cast-firsts
-overflow_cast-firsts c = omega (arith, first_within c.args.words.now c.loop-x.x (omega arith), (facts c.requires.0).privileges_few)
+overflow_cast-firsts c = omega (arith, first_within c.args.words.now c.loop-x.x (omega arith), (facts c.requires).privileges_few)
 
 pub bounds-firsts-x : goal.bounds-firsts-x
-bounds-firsts-x c = omega (arith, (facts c.requires.0).few)
+bounds-firsts-x c = omega (arith, (facts c.requires).few)
 
 pub privileges_at-first-requires : goal.privileges_at-first-requires
-privileges_at-first-requires c = has_record c.requires.0 (omega arith)
+privileges_at-first-requires c = has_record c.requires (omega arith)
 
 pub overflow_add-first : goal.overflow_add-first
-overflow_add-first c = omega (arith, first_within c.args.words.now c.loop-x.x (omega arith), (facts c.requires.0).privileges_few)
+overflow_add-first c = omega (arith, first_within c.args.words.now c.loop-x.x (omega arith), (facts c.requires).privileges_few)
 
 pub loop-x-preserved : goal.loop-x-preserved
 loop-x-preserved c =
@@ -33,6 +33,6 @@ loop-x-preserved c =
     record {
       first_is = ap (λ (p : ℕ). p + c.privileges_at-first.result) s.first_is ∙ rw c.privileges_at-first.ensures.is (sym (first_next c.args.words.now c.loop-x.x));
       size = length-set {A = ℕ} c.loop-x.firsts c.loop-x.x _ ∙ s.size;
-      written = fill_more (λ j r. r ≡ first_privilege c.args.words.now j) c.loop-x.firsts c.loop-x.x _ (omega (arith, (facts c.requires.0).few)) s.written s.first_is;
+      written = fill_more (λ j r. r ≡ first_privilege c.args.words.now j) c.loop-x.firsts c.loop-x.x _ (omega (arith, (facts c.requires).few)) s.written s.first_is;
       rest = λ j l. get_or-set_other c.loop-x.firsts c.loop-x.x j _ 0 (omega arith) ∙ s.rest j l;
     }

@@ -1,8 +1,7 @@
 -- The rows are read, and closed. Assumes nothing.
-use Rattle.std.proofs.Common.{refl}
 use Rattle.policy.proofs.SquareLaws.{policy_readable}
 use Rattle.verdict.proofs.breaches.choice_breach.Goals as goal
 
 pub read_rows-requires : goal.read_rows-requires
 read_rows-requires c = let v = c.requires.0 in
-    (policy_readable v.policy c.requires.2 c.requires.1, refl, refl)
+    policy_readable v.policy c.requires.2 c.requires.1
