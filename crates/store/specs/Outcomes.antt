@@ -1,6 +1,8 @@
 -- What a call answers to a program in another language: nine numbers, and a chain with its length (document 01, "Numbers of the answers and their order";
 -- document 02, orders 8 and 6). Assumes nothing.
-use Rattle.std.specs.Prelude.{ℕ, ◌≡◌}
+use Rattle.std.specs.Prelude.{ℕ, ◌≡◌, Result}
+use Rattle.table.specs.Refusals.{number_in, place_in}
+use Rattle.table.specs.declared.refusal.Refusal.{Refusal}
 use Rattle.verdict.specs.Breaches.{condition_number}
 use Rattle.verdict.specs.Answers.{refusal}
 use Rattle.verdict.specs.declared.Answer.{Answer}
@@ -21,6 +23,10 @@ outcome_of a = record {
   length = a.breach.length;
   chain = a.breach.chain;
 }
+
+-- of a call that gives a place
+abbrev pub placed_answer : Result ℕ Refusal → Answer
+placed_answer told = refusal (number_in told) (place_in told)
 
 -- an answer that is a number and a place as promised, and else zeros
 pub record Placed (Promised : ℕ → ℕ → Type 0) (a : Answer) : Type 0 where

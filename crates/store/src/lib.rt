@@ -17,7 +17,7 @@ ghost use Rattle.sheet.specs.Answers.{MonthAnswer};
 ghost use Rattle.adding.specs.Answers.{AddAnswer};
 ghost use Rattle.editing.specs.Answer.{EditAnswer};
 ghost use Rattle.mail.specs.Answers.{WriteAnswer, ReadAnswer};
-ghost use Rattle.store.specs.Outcomes.{outcome_of, Placed, Told};
+ghost use Rattle.store.specs.Outcomes.{outcome_of, placed_answer, Placed, Told};
 
 use adding::add_sheets;
 use carry::carry_marks;
@@ -30,7 +30,7 @@ use mending::mend;
 use proposing::judge_mend;
 use roles::complete_roles;
 use sheet::{Sheet, month_sheet};
-use table::check_table;
+use table::{Refusal, check_table};
 use verdict::{Answer, judge_policy, number_of, refused};
 
 // An answer as nine numbers, the condition by its number, 0 where there is none; then the length of the chain and its 17 places.
@@ -50,24 +50,34 @@ pub struct Outcome {
     pub chain: [u8; 17],
 }
 
-fn outcome_of(answer: Answer) -> Outcome
-    ensures { result ≡ outcome_of answer }
+impl From<Answer> for Outcome {
+    ghost from_gives = { λ answer outcome. outcome ≡ outcome_of answer };
+
+    fn from(answer: Answer) -> Outcome {
+        let breach = answer.breach;
+        Outcome {
+            number: usize::from(answer.number),
+            place: answer.place,
+            count: answer.count,
+            condition: number_of(breach.condition),
+            element: breach.element,
+            i: breach.i,
+            j: breach.j,
+            privilege: breach.privilege,
+            forbidden: breach.forbidden,
+            length: breach.length,
+            chain: breach.chain,
+        }
+    }
+}
+
+// The answer of a call that gives a place.
+fn placed(told: Result<usize, Refusal>) -> Answer
+    ensures { result ≡ placed_answer told }
 {
-    let breach = answer.breach;
-    let condition = breach.condition;
-    let positions = breach.chain;
-    Outcome {
-        number: answer.number as usize,
-        place: answer.place,
-        count: answer.count,
-        condition: number_of(condition),
-        element: breach.element,
-        i: breach.i,
-        j: breach.j,
-        privilege: breach.privilege,
-        forbidden: breach.forbidden,
-        length: breach.length,
-        chain: positions,
+    match told {
+        Ok(place) => refused(0, place),
+        Err(refusal) => refused(refusal.number(), refusal.place()),
     }
 }
 
@@ -75,8 +85,7 @@ fn outcome_of(answer: Answer) -> Outcome
 pub fn finnedscarf_check_table(words: &[u16]) -> Outcome
     ensures { Told (Placed (TableAnswer words.now)) result }
 {
-    let checked = check_table(words);
-    outcome_of(refused(checked.number, checked.place))
+    Outcome::from(placed(check_table(words)))
 }
 
 // Reads DTD text: refuses with 20 to 22, 4, 7, 19, 8, 9 or 12 and leaves the result as it was, or answers 0 and V, writes the text's table into it and
@@ -84,15 +93,14 @@ pub fn finnedscarf_check_table(words: &[u16]) -> Outcome
 pub fn finnedscarf_read_dtd(text: &[u8], out: &mut [u16]) -> Outcome
     ensures { Told (Placed (λ n p. DtdAnswer text.now out.old 1 n p out.new)) result }
 {
-    let read = read_dtd(text, out);
-    outcome_of(refused(read.number, read.place))
+    Outcome::from(placed(read_dtd(text, out)))
 }
 
 // Judges a policy: refuses with 1 to 11 or 19, or answers 0 with the first breach, zeros where there is none.
 pub fn finnedscarf_judge_policy(words: &[u16], marks: &[u8]) -> Outcome
     ensures { Told (JudgeAnswer words.now marks.now) result }
 {
-    outcome_of(judge_policy(words, marks))
+    Outcome::from(Answer::from(judge_policy(words, marks)))
 }
 
 // Completes a policy with the least permission: refuses with 1 to 12, 16 or 19 and leaves the result as it was, or writes V decided marks into it
@@ -100,7 +108,7 @@ pub fn finnedscarf_judge_policy(words: &[u16], marks: &[u8]) -> Outcome
 pub fn finnedscarf_complete(words: &[u16], marks: &[u8], out: &mut [u8]) -> Outcome
     ensures { Told (λ a. CompleteAnswer words.now marks.now out.old a out.new) result }
 {
-    outcome_of(complete(words, marks, out))
+    Outcome::from(Answer::from(complete(words, marks, out)))
 }
 
 // Completes the policies of as many roles as there are numbers, over one table: refuses with 1 to 10, 12 or 19 and leaves the numbers and the result as
@@ -113,7 +121,7 @@ pub fn finnedscarf_complete_roles(
 ) -> Outcome
     ensures { Told (λ a. RolesAnswer words.now marks.now numbers.old out.old a numbers.new out.new) result }
 {
-    outcome_of(complete_roles(words, marks, numbers, out))
+    Outcome::from(Answer::from(complete_roles(words, marks, numbers, out)))
 }
 
 // Mends a policy: refuses with 1 to 12 or 19 and leaves the result as it was, or writes what the rule gives into it, keeps its rest, and counts the
@@ -121,21 +129,21 @@ pub fn finnedscarf_complete_roles(
 pub fn finnedscarf_mend(words: &[u16], marks: &[u8], out: &mut [u8]) -> Outcome
     ensures { Told (λ a. MendAnswer words.now marks.now out.old a out.new) result }
 {
-    outcome_of(mend(words, marks, out))
+    Outcome::from(Answer::from(mend(words, marks, out)))
 }
 
 // Judges a proposed mend: refuses with 1 to 11, 13 to 16 or 19, or accepts it with the number of changed marks.
 pub fn finnedscarf_judge_mend(words: &[u16], marks: &[u8], proposed: &[u8]) -> Outcome
     ensures { Told (ProposeAnswer words.now marks.now proposed.now) result }
 {
-    outcome_of(judge_mend(words, marks, proposed))
+    Outcome::from(Answer::from(judge_mend(words, marks, proposed)))
 }
 
 // Judges a policy given as two bit maps: refuses with the table's numbers, 10, 23 or 24, or answers 0 with the first breach, zeros where there is none.
 pub fn finnedscarf_judge_maps(words: &[u16], allowed: &[u8], forbidden: &[u8]) -> Outcome
     ensures { Told (JudgeMapsAnswer words.now (maps allowed.now forbidden.now)) result }
 {
-    outcome_of(judge_maps(words, allowed, forbidden))
+    Outcome::from(Answer::from(judge_maps(words, allowed, forbidden)))
 }
 
 // Completes such a policy with the least permission: refuses with the table's numbers, 10, 23, 24, 12 or 16 and leaves both result maps as they were, or
@@ -149,7 +157,7 @@ pub fn finnedscarf_complete_maps(
 ) -> Outcome
     ensures { Told (λ a. CompleteMapsAnswer words.now (maps allowed.now forbidden.now) (maps out_allowed.old out_forbidden.old) a (maps out_allowed.new out_forbidden.new)) result }
 {
-    outcome_of(complete_maps(words, allowed, forbidden, out_allowed, out_forbidden))
+    Outcome::from(Answer::from(complete_maps(words, allowed, forbidden, out_allowed, out_forbidden)))
 }
 
 // Mends such a policy: refuses with the table's numbers, 10, 23, 24 or 12 and leaves both result maps as they were, or writes the maps of what the rule
@@ -163,7 +171,7 @@ pub fn finnedscarf_mend_maps(
 ) -> Outcome
     ensures { Told (λ a. MendMapsAnswer words.now (maps allowed.now forbidden.now) (maps out_allowed.old out_forbidden.old) a (maps out_allowed.new out_forbidden.new)) result }
 {
-    outcome_of(mend_maps(words, allowed, forbidden, out_allowed, out_forbidden))
+    Outcome::from(Answer::from(mend_maps(words, allowed, forbidden, out_allowed, out_forbidden)))
 }
 
 // Judges a proposed mend of such a policy, two maps too: refuses with the table's numbers, 10, 23, 24 or 13 to 16, or accepts it with the number of
@@ -177,13 +185,13 @@ pub fn finnedscarf_judge_mend_maps(
 ) -> Outcome
     ensures { Told (ProposeMapsAnswer words.now (maps allowed.now forbidden.now) (maps proposed_allowed.now proposed_forbidden.now)) result }
 {
-    outcome_of(judge_mend_maps(
+    Outcome::from(Answer::from(judge_mend_maps(
         words,
         allowed,
         forbidden,
         proposed_allowed,
         proposed_forbidden,
-    ))
+    )))
 }
 
 // Carries the marks of an old table over to a new one, by the new numbers of the old types, 65,535 for one that is gone: refuses with the old table's
@@ -199,7 +207,7 @@ pub fn finnedscarf_carry_marks(
 ) -> Outcome
     ensures { Told (λ a. CarryAnswer old_words.now old_marks.now new_words.now new_numbers.now out.old lost.old a out.new lost.new) result }
 {
-    outcome_of(carry_marks(old_words, old_marks, new_words, new_numbers, out, lost))
+    Outcome::from(Answer::from(carry_marks(old_words, old_marks, new_words, new_numbers, out, lost)))
 }
 
 // Counts the roles of a month, whose marks stand one after another: refuses with 1 to 10, 12 or 19 and leaves the counts as they were, or answers how many
@@ -229,8 +237,7 @@ pub fn finnedscarf_add_sheets(
 pub fn finnedscarf_write_listing(text: &[u8], format: u16, marks: &[u8], out: &mut [u8]) -> Outcome
     ensures { Told (Placed (λ n p. WriteAnswer text.now format marks.now out.old n p out.new)) result }
 {
-    let written = write_listing(text, format, marks, out);
-    outcome_of(refused(written.number, written.place))
+    Outcome::from(placed(write_listing(text, format, marks, out)))
 }
 
 // Reads a listing by DTD text and a format: refuses with 1, 20 to 22, 4, 7, 19, 8, 9, 25, 26 or 12 and leaves the result as it was, or answers 0, writes the V marks
@@ -238,8 +245,7 @@ pub fn finnedscarf_write_listing(text: &[u8], format: u16, marks: &[u8], out: &m
 pub fn finnedscarf_read_listing(text: &[u8], format: u16, listing: &[u8], out: &mut [u8]) -> Outcome
     ensures { Told (Placed (λ n p. ReadAnswer text.now format listing.now out.old n p out.new)) result }
 {
-    let told = read_listing(text, format, listing, out);
-    outcome_of(refused(told.number, told.place))
+    Outcome::from(Answer::from(read_listing(text, format, listing, out)))
 }
 
 // Edits one mark and judges by the kept entries: refuses with 1 to 12 or 19 and leaves the marks and the entries as they were, or answers 0 with the first
@@ -253,5 +259,5 @@ pub fn finnedscarf_edit_mark(
 ) -> Outcome
     ensures { Told (λ a. EditAnswer words.now marks.old kept.old privilege mark a marks.new kept.new) result }
 {
-    outcome_of(edit_mark(words, marks, kept, privilege, mark))
+    Outcome::from(Answer::from(edit_mark(words, marks, kept, privilege, mark)))
 }
