@@ -1,37 +1,28 @@
 // Cases of edits, kind 9.
-use super::{next_bytes, next_numbers, next_words, put_answer, put_run, put_words};
+use super::input::{next_bytes, next_numbers, next_words};
+use super::output::{put_answer, put_run, put_words};
 use editing::edit_mark;
 use std::io;
 use std::io::{Read, Write};
 
-// The privilege of an edit, a 32-bit number.
-fn privilege_of(number: u32) -> usize {
-    number as usize
-}
-
-// The mark of an edit, a 32-bit number. None is over 255.
-fn mark_of(number: u32) -> u8 {
-    (number % 256) as u8
-}
-
-// The call of one edit.
+// The call of one edit. No mark is over 255.
 fn put_edit(
     output: &mut impl Write,
     case: usize,
     words: &[u16],
     marks: &mut [u8],
     kept: &mut [u16],
-    privilege: usize,
-    mark: u8,
+    privilege: u32,
+    mark: u32,
 ) -> io::Result<()> {
-    let answer = edit_mark(words, marks, kept, privilege, mark);
+    let answer = edit_mark(words, marks, kept, privilege as usize, (mark % 256) as u8);
     put_answer(output, case, "edit", answer)?;
     put_run(output, marks)?;
     put_words(output, kept)?;
     writeln!(output)
 }
 
-// The calls on a case of kind 9, each on the marks and entries that the one before left.
+// The calls on a case, each on the marks and entries that the one before left.
 fn put_edits(
     output: &mut impl Write,
     case: usize,
@@ -40,15 +31,13 @@ fn put_edits(
     kept: &mut [u16],
     edits: &[u32],
 ) -> io::Result<()> {
-    for k in 0..edits.len() / 2 {
-        let privilege = privilege_of(edits[2 * k]);
-        let mark = mark_of(edits[2 * k + 1]);
-        put_edit(output, case, words, marks, kept, privilege, mark)?;
+    for edit in edits.chunks_exact(2) {
+        put_edit(output, case, words, marks, kept, edit[0], edit[1])?;
     }
     Ok(())
 }
 
-// Kind 9: a table, marks and entries as lent, the edits, two numbers for each.
+// Kind 9: a table, marks and entries as lent, the edits, two numbers for each: the privilege and its mark.
 pub(crate) fn run_edits(
     case: usize,
     input: &mut impl Read,
@@ -65,9 +54,9 @@ pub(crate) fn run_edits(
     put_edits(
         output,
         case,
-        &words[0..w],
-        &mut marks[0..m],
-        &mut kept[0..k],
-        &edits[0..e],
+        &words[..w],
+        &mut marks[..m],
+        &mut kept[..k],
+        &edits[..e],
     )
 }
