@@ -8,7 +8,6 @@ ghost use Rattle.stream.specs.Advances.{Advances};
 
 use std::io;
 use std::io::Read;
-use table::Found;
 
 // Reads until the buffer is full or the reader ends, and answers how many bytes now stand at the buffer's start.
 pub fn read_full<R: Read>(reader: &mut R, buffer: &mut [u8]) -> io::Result<usize>
@@ -61,35 +60,32 @@ impl Readable for u32 {
 }
 
 // The kind of the next case, or nothing at the end.
-pub fn next_kind<R: Read>(reader: &mut R) -> io::Result<Found>
+pub fn next_kind<R: Read>(reader: &mut R) -> io::Result<Option<usize>>
     ensures { Advances (R.remaining reader.old) (R.remaining reader.new) }
 {
     let mut one = [0u8; 1];
     if read_full(reader, &mut one)? < 1 {
-        return Ok(Found::Nothing);
+        return Ok(None);
     }
-    Ok(Found::At(usize::from(one[0])))
+    Ok(Some(usize::from(one[0])))
 }
 
 // The length of the next run, or nothing at the end.
-pub fn next_run<R: Read>(reader: &mut R) -> io::Result<Found>
+pub fn next_run<R: Read>(reader: &mut R) -> io::Result<Option<usize>>
     ensures { Advances (R.remaining reader.old) (R.remaining reader.new) }
 {
     let mut four = [0u8; 4];
     if read_full(reader, &mut four)? < 4 {
-        return Ok(Found::Nothing);
+        return Ok(None);
     }
-    Ok(Found::At(u32::from_le_bytes(four) as usize))
+    Ok(Some(u32::from_le_bytes(four) as usize))
 }
 
 // The length of the next run, 0 at the end.
 pub fn next_length<R: Read>(reader: &mut R) -> io::Result<usize>
     ensures { Advances (R.remaining reader.old) (R.remaining reader.new) }
 {
-    match next_run(reader)? {
-        Found::At(length) => Ok(length),
-        Found::Nothing => Ok(0),
-    }
+    Ok(next_run(reader)?.unwrap_or(0))
 }
 
 // The next 32-bit number, low byte first, 0 at the end.
