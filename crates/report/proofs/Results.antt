@@ -1,8 +1,13 @@
 -- What the calls have written, read back from the front of the lent result. Assumes nothing.
-use Rattle.std.proofs.Common.{ℕ, ◌+◌, ◌≤◌, ◌<◌, ◌≡◌, sym, ap, subst, ◌∙◌, ◌≢◌, ◌⊎◌, inl, inr, List, ◌++◌, arith, length, get_or, take, drop, take_at}
+use Rattle.std.proofs.Common.{Result, Ok, Err, refl, ℕ, ◌+◌, ◌≤◌, ◌<◌, ◌≡◌, sym, ap, subst, ◌∙◌, ◌≢◌, ◌⊎◌, inl, inr, List, ◌++◌, arith, length, get_or, take, drop, take_at}
 use Rattle.table.specs.Privilege.{privileges}
 use Rattle.table.specs.Check.{Accepted}
-use Rattle.table.proofs.Answers.{accepted_answer}
+use Rattle.std.specs.Prelude.{IsOk}
+use Rattle.table.proofs.Answers.{accepted_answer, refusal_not}
+use Rattle.table.specs.declared.refusal.Refusal.{Refusal}
+use Rattle.verdict.specs.declared.Rejection.{Rejection}
+use Rattle.verdict.specs.declared.Rejection.TheVariants.{Refused, Broken}
+use Rattle.verdict.specs.Results.{rejection_answer, counted_answer}
 use Rattle.table.proofs.Facts.{facts}
 use Rattle.policy.specs.Marks.{Unfit, Policy, table, marks}
 use Rattle.verdict.specs.Breaches.{Verdict}
@@ -16,6 +21,10 @@ use Rattle.mending.specs.Mends.{Mends}
 use Rattle.mending.specs.Answers as mending
 use Rattle.mending.proofs.Mended.{mends_lowered}
 use Rattle.lines.specs.Steps.Putting.{Raisable}
+
+rejection_not : (r : Rejection) → (rejection_answer r).number ≢ 0
+rejection_not (Refused r) = refusal_not r
+rejection_not (Broken b) = λ e. omega arith
 
 -- the verdict's answer, where the table is accepted
 module _ {ws ms : List ℕ} {a : Answer} (accepted : Accepted ws) where
@@ -45,18 +54,25 @@ module _ {ws ms : List ℕ} (policy : Policy ws ms) where
     completed (completing.none p enough never first is same) done = absurd (omega (arith, done, ap (λ (x : Answer). x.number) is))
     completed (completing.given p enough least is same) done = subst (λ (n : List ℕ). LeastCompletion ws ms n) (front lent least.completes.size same) least
 
-    pub none_completed : completing.CompleteAnswer ws ms lent a after → a.number ≢ 0 → (n : List ℕ) → ¬ Completes ws ms n
-    none_completed (completing.refused why is same) left = absurd (policy_not policy why)
-    none_completed (completing.short p less is same) left = absurd (omega (arith, policy.fit.size, few))
-    none_completed (completing.none p enough never first is same) left = never
-    none_completed (completing.given p enough least is same) left = absurd (left (ap (λ (x : Answer). x.number) is))
-
     pub mended : mending.MendAnswer ws ms lent a after → Mends ws ms (take (length ms) after) a.count
     mended (mending.refused why is same) = absurd (policy_not policy why)
     mended (mending.short p less is same) = absurd (omega (arith, policy.fit.size, few))
     mended (mending.mended {n} {count} p enough mends is same) =
         let size : length n ≡ privileges ws = (mends_lowered mends).size ∙ policy.fit.size in
         subst (λ (m : List ℕ). Mends ws ms m a.count) (front lent size same) (subst (λ (c : ℕ). Mends ws ms n c) (sym (ap (λ (x : Answer). x.count) is)) mends)
+
+  module _ {lent after : List ℕ} (room : length lent ≡ 4096) where
+    pub none_completed : (r : Rejection) → completing.CompleteAnswer ws ms lent (rejection_answer r) after → (n : List ℕ) → ¬ Completes ws ms n
+    none_completed r (completing.refused why is same) = absurd (policy_not policy why)
+    none_completed r (completing.short p less is same) = absurd (omega (arith, policy.fit.size, few))
+    none_completed r (completing.none p enough never first is same) = never
+    none_completed r (completing.given p enough least is same) = absurd (rejection_not r (ap (λ (x : Answer). x.number) is))
+
+    pub mends_it : (r : Result ℕ Refusal) → mending.MendAnswer ws ms lent (counted_answer r) after → IsOk r
+    mends_it r (mending.refused why is same) = absurd (policy_not policy why)
+    mends_it r (mending.short p less is same) = absurd (omega (arith, policy.fit.size, few))
+    mends_it (Ok count) (mending.mended p enough mends is same) = refl
+    mends_it (Err r) (mending.mended p enough mends is same) = absurd (refusal_not r (ap (λ (x : Answer). x.number) is))
 
   -- their digits are bytes
   pub completed_raisable : {n : List ℕ} → LeastCompletion ws ms n → Raisable 48 n

@@ -59,9 +59,8 @@ fn verdict_numbers(breach: Breach, positions: &[u8]) -> [usize; 22]
     requires { length positions.now ≤ 17 }
     ensures { take (5 + length positions.now) result ≡ five_of breach ++ positions.now }
 {
-    let condition = breach.condition;
     let mut numbers = [0usize; 22];
-    numbers[0] = number_of(condition);
+    numbers[0] = number_of(breach.condition);
     numbers[1] = breach.element;
     numbers[2] = breach.i;
     numbers[3] = breach.j;
@@ -78,9 +77,8 @@ fn put_verdict(out: &mut [u8], at: usize, breach: Breach) -> usize
     ensures { Puts (line verdict_word (numbers_of breach) []) out.old at out.new result }
 {
     let length = breach.length;
-    let chain = breach.chain;
-    let numbers = verdict_numbers(breach, &chain[0..length]);
-    put_line(out, at, b"verdict", &numbers[0..5 + length], b"")
+    let numbers = verdict_numbers(breach, &breach.chain[..length]);
+    put_line(out, at, b"verdict", &numbers[..5 + length], b"")
 }
 
 // Puts the completion's line.
@@ -88,24 +86,21 @@ fn put_completed(words: &[u16], marks: &[u8], out: &mut [u8], at: usize) -> usiz
     requires { Policy words.now marks.now × (at + 4106 ≤ length out.old) }
     ensures { Adds (CompleteLine words.now marks.now) 4106 out.old at out.new result }
 {
-    let none = [0usize; 0];
     let mut completed = [0u8; 4096];
-    let answer = complete(words, marks, &mut completed);
-    if answer.number != 0 {
-        return put_line(out, at, b"complete none", &none, b"");
+    match complete(words, marks, &mut completed) {
+        Ok(()) => put_line(out, at, b"complete", &[], &completed[..marks.len()]),
+        Err(_) => put_line(out, at, b"complete none", &[], b""),
     }
-    put_line(out, at, b"complete", &none, &completed[0..marks.len()])
 }
 
-// Puts the mend's line.
+// Puts the mend's line. A policy is never refused here: there is room for any.
 fn put_mended(words: &[u16], marks: &[u8], out: &mut [u8], at: usize) -> usize
     requires { Policy words.now marks.now × (at + 4125 ≤ length out.old) }
     ensures { Adds (MendedLine words.now marks.now) 4125 out.old at out.new result }
 {
     let mut mended = [0u8; 4096];
-    let answer = mend(words, marks, &mut mended);
-    let count = [answer.count];
-    put_line(out, at, b"mended", &count, &mended[0..marks.len()])
+    let count = mend(words, marks, &mut mended).unwrap();
+    put_line(out, at, b"mended", &[count], &mended[..marks.len()])
 }
 
 // Puts what follows line 1 where the table is accepted.
@@ -113,13 +108,14 @@ fn put_policy(words: &[u16], marks: &[u8], out: &mut [u8], at: usize) -> usize
     requires { Accepted words.now × (at + 8702 ≤ length out.old) }
     ensures { Adds (PolicyLines words.now marks.now) 8702 out.old at out.new result }
 {
-    let judged = judge_policy(words, marks);
-    if judged.number != 0 {
-        return put_answer(out, at, b"marks", judged.number, judged.place);
+    match judge_policy(words, marks) {
+        Ok(breach) => {
+            let second = put_verdict(out, at, breach);
+            let third = put_completed(words, marks, out, second);
+            put_mended(words, marks, out, third)
+        }
+        Err(refusal) => put_answer(out, at, b"marks", refusal.number(), refusal.place()),
     }
-    let second = put_verdict(out, at, judged.breach);
-    let third = put_completed(words, marks, out, second);
-    put_mended(words, marks, out, third)
 }
 
 // Puts all lines for a file that is not too long.
@@ -129,13 +125,14 @@ fn put_report(file: &[u8], out: &mut [u8]) -> usize
 {
     let mut space = [0u16; 4096];
     let n = read_words(file, &mut space);
-    let words = lent(&space[0..n]);
-    let checked = check_table(words);
-    let second = put_answer(out, 0, b"table", checked.number, checked.place);
-    if checked.number != 0 {
-        return second;
+    let words = lent(&space[..n]);
+    match check_table(words) {
+        Ok(v) => {
+            let second = put_answer(out, 0, b"table", 0, v);
+            put_policy(words, &file[2 * words.len()..], out, second)
+        }
+        Err(refusal) => put_answer(out, 0, b"table", refusal.number(), refusal.place()),
     }
-    put_policy(words, &file[2 * words.len()..file.len()], out, second)
 }
 
 // What is printed for a file, whatever it holds.
