@@ -2,8 +2,8 @@
 #![tactic(auto)]
 
 ghost use Rattle.std.specs.Prelude.{List};
-ghost use Rattle.table.specs.Refusals.{number_in, place_in};
 ghost use Rattle.grammar.specs.Tree.{Declaration};
+ghost use Rattle.table.specs.Refusals.{number_in, place_in};
 ghost use Rattle.scan.specs.Steps.Scanned.{Read};
 ghost use Rattle.model.specs.Tables.{table_of};
 ghost use Rattle.dtd.specs.Answer.{KnownFormat, DtdAnswer};
@@ -18,6 +18,11 @@ use names::{collect, first_misnamed};
 use scan::{Stop, scan};
 use table::Refusal;
 use write::{Counts, count, write_rules};
+
+// A table has no more types, and no more child entries.
+const MOST_TYPES: usize = 256;
+
+const MOST_KIDS: usize = 1024;
 
 // Writes the table of a code, and answers for it.
 fn read_table(
@@ -34,7 +39,7 @@ fn read_table(
     let mut words = [0u16; 1800];
     write_rules(code, declared, counts, &mut words);
     let n = 8 + 3 * counts.types + counts.kids;
-    finish(&mut words[0..n], format, out)
+    finish(&mut words[..n], format, out)
 }
 
 // Counts types and child entries, and looks for a name that is declared twice or not at all.
@@ -50,11 +55,11 @@ fn read_code(
     ensures { DtdAnswer text.now out.old format (number_in result) (place_in result) out.new }
 {
     let counts = count(code);
-    if counts.types > 256 || counts.kids > 1024 {
+    if counts.types > MOST_TYPES || counts.kids > MOST_KIDS {
         return Err(Refusal::TooLarge(text.len()));
     }
     match first_misnamed(text, list, declared) {
-        Some(k) => Err(Refusal::Misnamed(k)),
+        Some(at) => Err(Refusal::Misnamed(at)),
         None => read_table(code, declared, counts, format, out),
     }
 }
@@ -75,7 +80,7 @@ fn read_named(
     if size > 1280 {
         return Err(Refusal::TooLarge(text.len()));
     }
-    read_code(text, list, declared, &code[0..size], format, out)
+    read_code(text, list, declared, &code[..size], format, out)
 }
 
 // Collects the declared names of a text of the grammar.
@@ -91,7 +96,7 @@ fn read_text(text: &[u8], format: u16, out: &mut [u16]) -> Result<usize, Refusal
     read_named(text, &list, declared, format, out)
 }
 
-// Reads DTD text, whatever it holds: V where its table of this format, 1 or 2, was written to the front of out, else why it was not.
+// Reads DTD text, whatever it holds: V where its table of this format, 1 or 2, was written to the front of out, else the refusal.
 pub fn read_format(text: &[u8], format: u16, out: &mut [u16]) -> Result<usize, Refusal>
     requires { KnownFormat format }
     ensures { DtdAnswer text.now out.old format (number_in result) (place_in result) out.new }
