@@ -50,15 +50,23 @@ pub fn no_figures() -> Figures
 }
 
 // A refusal: all but number and place is 0.
-pub fn refused(why: Refusal) -> Sheet
-    ensures { result ≡ refusal (number_of why) (place_of why) }
+pub fn refused(number: usize, place: usize) -> Sheet
+    ensures { result ≡ refusal number place }
 {
     Sheet {
-        number: usize::from(why.number()),
-        place: why.place(),
+        number,
+        place,
         figures: no_figures(),
         leader_count: 0,
         leaders: [0usize; 3],
+    }
+}
+
+impl From<Refusal> for Sheet {
+    ghost from_gives = { λ why sheet. sheet ≡ refusal (number_of why) (place_of why) };
+
+    fn from(why: Refusal) -> Sheet {
+        refused(usize::from(why.number()), why.place())
     }
 }
 
@@ -84,14 +92,14 @@ pub fn month_sheet(words: &[u16], roles: u32, marks: &[u8], counts: &mut [u32]) 
     let mut order = [0u8; 256];
     let v = match check_ordered(words, &mut order) {
         Ok(v) => v,
-        Err(refusal) => return refused(refusal),
+        Err(refusal) => return Sheet::from(refusal),
     };
     if marks.len() != roles as usize * v {
-        return refused(Refusal::MarksLength);
+        return Sheet::from(Refusal::MarksLength);
     }
     let n = 3 * v;
     if counts.len() < n {
-        return refused(Refusal::ResultLength);
+        return Sheet::from(Refusal::ResultLength);
     }
     let figures = count_roles(words, roles, marks, v, &order, &mut counts[0..n]);
     done_with(figures, leaders_of(&counts[0..n]))

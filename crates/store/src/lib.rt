@@ -157,7 +157,13 @@ pub fn finnedscarf_complete_maps(
 ) -> Outcome
     ensures { Told (λ a. CompleteMapsAnswer words.now (maps allowed.now forbidden.now) (maps out_allowed.old out_forbidden.old) a (maps out_allowed.new out_forbidden.new)) result }
 {
-    Outcome::from(Answer::from(complete_maps(words, allowed, forbidden, out_allowed, out_forbidden)))
+    Outcome::from(Answer::from(complete_maps(
+        words,
+        allowed,
+        forbidden,
+        out_allowed,
+        out_forbidden,
+    )))
 }
 
 // Mends such a policy: refuses with the table's numbers, 10, 23, 24 or 12 and leaves both result maps as they were, or writes the maps of what the rule
@@ -207,7 +213,14 @@ pub fn finnedscarf_carry_marks(
 ) -> Outcome
     ensures { Told (λ a. CarryAnswer old_words.now old_marks.now new_words.now new_numbers.now out.old lost.old a out.new lost.new) result }
 {
-    Outcome::from(Answer::from(carry_marks(old_words, old_marks, new_words, new_numbers, out, lost)))
+    Outcome::from(Answer::from(carry_marks(
+        old_words,
+        old_marks,
+        new_words,
+        new_numbers,
+        out,
+        lost,
+    )))
 }
 
 // Counts the roles of a month, whose marks stand one after another: refuses with 1 to 10, 12 or 19 and leaves the counts as they were, or answers how many

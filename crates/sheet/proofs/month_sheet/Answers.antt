@@ -14,7 +14,7 @@ few : {ws : List ℕ} {v : ℕ} → TableAnswer ws 0 v → v ≤ 4096
 few a = let t = table_accepted refl a in omega (arith, t.1, (facts t.0).privileges_few)
 
 pub returns-in-Err : goal.returns-in-Err
-returns-in-Err c = refused (table (refusal_not c.in-Err.refusal) c.in-Err.ensures.answer) c.refused.ensures refl
+returns-in-Err c = refused (table (refusal_not c.in-Err.refusal) c.in-Err.ensures.answer) c.from.ensures refl
 
 pub overflow_mul-roles : goal.overflow_mul-roles
 overflow_mul-roles c =
@@ -24,7 +24,7 @@ overflow_mul-roles c =
 pub returns-then-marks-roles : goal.returns-then-marks-roles
 returns-then-marks-roles c =
     let t = table_accepted refl c.in-Ok.ensures.answer in
-    refused (length_off t.0 (rw t.1 at c.if-marks-roles.true) refl refl) c.refused-then-marks-roles.ensures refl
+    refused (length_off t.0 (rw t.1 at c.if-marks-roles.true) refl refl) c.from-then-marks-roles.ensures refl
 
 pub overflow_mul-n : goal.overflow_mul-n
 overflow_mul-n c = omega (arith, few c.in-Ok.ensures.answer)
@@ -32,7 +32,7 @@ overflow_mul-n c = omega (arith, few c.in-Ok.ensures.answer)
 pub returns-then-counts-n : goal.returns-then-counts-n
 returns-then-counts-n c =
     let t = table_accepted refl c.in-Ok.ensures.answer in
-    refused (short t.0 (rw t.1 at c.if-marks-roles.false) (omega (arith, c.if-counts-n.true, t.1)) refl refl) c.refused-then-counts-n.ensures refl
+    refused (short t.0 (rw t.1 at c.if-marks-roles.false) (omega (arith, c.if-counts-n.true, t.1)) refl refl) c.from-then-counts-n.ensures refl
 
 pub returns : goal.returns
 returns c =
