@@ -1,13 +1,7 @@
 -- The conditions as they are asked: what a search at one type tells of each, beside what was known, and what a pass over the types has shown. Assumes
 -- nothing.
-use Prim.Native.Nat.{ℕ, ◌+◌, ◌<◌}
-use mathlib.Core.Path.{◌≡◌, refl, sym, ap, subst, ◌∙◌}
-use mathlib.Core.Logic.{◌≢◌, ◌⊎◌, inl, inr, ⊎_elim}
-use mathlib.Core.Bool.{Bool, true, false, false≢true}
-use mathlib.Core.List.{List}
-use native.Mathlib.Nat.{eq-or-lt_of_le}
-use native.Mathlib.Omega.{arith}
-use lib.ListN.{length, get_or}
+use Rattle.std.proofs.Common.{ℕ, ◌+◌, ◌<◌, ◌≡◌, refl, sym, ap, subst, ◌∙◌, ◌≢◌, ◌⊎◌, inl, inr, ⊎_elim, Bool, true, false, List, eq-or-lt_of_le, arith, length, get_or}
+use mathlib.Core.Bool.{false≢true}
 use Rattle.table.specs.Words.{types}
 use Rattle.table.specs.Rule.{IsChoice, count_of, child_at}
 use Rattle.table.specs.Check.{Accepted}

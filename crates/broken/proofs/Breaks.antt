@@ -1,8 +1,6 @@
 -- What breaks a condition somewhere, beside what else is said of a policy: a clean one breaks none, one that breaks none is clean, and the first breach
 -- is of one that is broken. Each condition by itself is what Clean says of it. Assumes nothing.
-use Prim.Native.Nat.{ℕ}
-use mathlib.Core.Path.{refl}
-use mathlib.Core.List.{List}
+use Rattle.std.proofs.Common.{ℕ, refl, List}
 use Rattle.table.specs.Rule.{IsChoice, IsStar, child_at}
 use Rattle.table.specs.Privilege.{exchange_of, replace_of, Exchangeable, Replaceable}
 use Rattle.policy.specs.Marks.{Allowed, Forbidden}

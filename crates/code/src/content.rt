@@ -1,9 +1,10 @@
 // Putting contents into code.
-ghost use Rattle.std.specs.Prelude.{◌≤◌, ◌≡◌, length};
+ghost use Rattle.std.specs.Prelude.{◌≤◌, length};
 ghost use Rattle.code.specs.Steps.Putting.{TextRead, ContentPut};
 
 use crate::particle::put_particle;
-use crate::{insert, more};
+use crate::{Code, more};
+use names::list::NameList;
 use scan::bytes::is;
 use scan::piece::blanks;
 
@@ -21,30 +22,26 @@ fn is_text(s: &[u8], at: usize) -> bool
     is(s, at, b'(') && is(s, blanks(s, at + 1), b'#')
 }
 
-// The words of a content.
-pub(crate) fn put_content(
-    s: &[u8],
-    at: usize,
-    list: &[u16; 512],
-    count: usize,
-    code: &mut [u32; 1280],
-    size: usize,
-) -> usize
-    requires { (at ≤ length s.now) × (length code.old ≡ 1280) }
-    ensures { ContentPut s.now list.now count at code.old size code.new result }
+// Puts the words of a content.
+pub(crate) fn put_content(s: &[u8], at: usize, names: &NameList, code: &mut Code)
+    requires { at ≤ length s.now }
+    ensures { ContentPut s.now names.now.entries names.now.count at code.old.words code.old.size code.new.words code.new.size }
 {
     if is(s, at, b'E') {
-        return insert(code, size, size, EMPTY);
+        code.push(EMPTY);
+        return;
     }
     if is(s, at, b'A') {
-        return insert(code, size, size, EMPTY);
+        code.push(EMPTY);
+        return;
     }
     if is_text(s, at) {
-        return insert(code, size, size, TEXT);
+        code.push(TEXT);
+        return;
     }
-    let p = put_particle(s, at, 16, list, count, code, size);
-    if p.size == more(size) {
-        return insert(code, p.size, size, LONE);
+    let start = code.size;
+    put_particle(s, at, 16, names, code);
+    if code.size == more(start) {
+        code.insert(start, LONE);
     }
-    p.size
 }

@@ -7,6 +7,7 @@ ghost use Rattle.code.specs.Steps.Holding.{Inserts};
 ghost use Rattle.code.specs.Steps.Putting.{MarkPut, AllPut};
 
 use content::put_content;
+use names::list::NameList;
 use names::walk::{Declared, declaration_from, place_behind};
 use scan::bytes::is;
 
@@ -20,13 +21,20 @@ const ANY: u32 = 327681;
 
 const SEVERAL: u32 = 458753;
 
+// A code in the making: its first 1,280 words, and how many it has, counted up to 1,281.
+#[derive(Drop)]
+pub struct Code {
+    pub words: [u32; 1280],
+    pub size: usize,
+}
+
 // Moves the words from a place up to another on by one.
-fn shift(code: &mut [u32; 1280], low: usize, high: usize)
-    requires { (length code.old ≡ 1280) × (high < 1280) }
-    ensures { Shifted 1 code.old code.new low high }
+fn shift(words: &mut [u32; 1280], low: usize, high: usize)
+    requires { high < 1280 }
+    ensures { Shifted 1 words.old words.new low high }
 {
     if low < high {
-        code.copy_within(low..high, low + 1);
+        words.copy_within(low..high, low + 1);
     }
 }
 
@@ -37,69 +45,55 @@ pub(crate) fn more(size: usize) -> usize
     size.min(1280) + 1
 }
 
-// Puts a word between the words before a place and those behind it, and answers the new size; words that do not fit are dropped.
-pub(crate) fn insert(code: &mut [u32; 1280], size: usize, at: usize, w: u32) -> usize
-    requires { length code.old ≡ 1280 }
-    ensures { Inserts code.old size at w code.new result }
-{
-    if at >= 1280 {
-        return more(size);
+impl Code {
+    // Puts a word between the words before a place and those behind it; words that do not fit are dropped.
+    pub(crate) fn insert(&mut self, at: usize, w: u32)
+        ensures { Inserts self.old.words self.old.size at w self.new.words self.new.size }
+    {
+        if at < 1280 {
+            shift(&mut self.words, at, self.size.min(1279));
+            self.words[at] = w;
+        }
+        self.size = more(self.size);
     }
-    shift(code, at, size.min(1279));
-    code[at] = w;
-    more(size)
+
+    // Puts a word behind the others.
+    pub(crate) fn push(&mut self, w: u32)
+        ensures { Inserts self.old.words self.old.size self.old.size w self.new.words self.new.size }
+    {
+        self.insert(self.size, w);
+    }
 }
 
-// Where reading ended, and how many words the code has.
-#[derive(Clone, Copy)]
-pub struct Put {
-    pub at: usize,
-    pub size: usize,
-}
-
-// A mark, put before the model whose code begins at start.
-pub(crate) fn put_mark(
-    s: &[u8],
-    at: usize,
-    code: &mut [u32; 1280],
-    size: usize,
-    start: usize,
-) -> Put
-    requires { (at ≤ length s.now) × (length code.old ≡ 1280) }
-    ensures { MarkPut s.now at start code.old size code.new result.at result.size }
+// Puts the word of a mark, if one stands there, before the model whose code begins at start, and answers the place behind the mark.
+pub(crate) fn put_mark(s: &[u8], at: usize, code: &mut Code, start: usize) -> usize
+    requires { at ≤ length s.now }
+    ensures { MarkPut s.now at start code.old.words code.old.size code.new.words result code.new.size }
 {
     if is(s, at, b'?') {
-        return Put {
-            at: at + 1,
-            size: insert(code, size, start, MAYBE),
-        };
+        code.insert(start, MAYBE);
+        return at + 1;
     }
     if is(s, at, b'*') {
-        return Put {
-            at: at + 1,
-            size: insert(code, size, start, ANY),
-        };
+        code.insert(start, ANY);
+        return at + 1;
     }
     if is(s, at, b'+') {
-        return Put {
-            at: at + 1,
-            size: insert(code, size, start, SEVERAL),
-        };
+        code.insert(start, SEVERAL);
+        return at + 1;
     }
-    Put { at, size }
+    at
 }
 
-// The code of a text's declarations, and its size.
-pub fn put_all(s: &[u8], list: &[u16; 512], count: usize, code: &mut [u32; 1280]) -> usize
-    requires { length code.old ≡ 1280 }
-    ensures { AllPut s.now list.now count code.new result }
+// The code of a text's declarations.
+pub fn put_all(s: &[u8], names: &NameList, code: &mut Code)
+    ensures { AllPut s.now names.now.entries names.now.count code.new.words code.new.size }
 {
+    code.size = 0;
     let mut at = 0;
-    let mut size = 0;
     // A while: declarations have any length.
     while let Some(Declared { body, .. }) = declaration_from(s, at) {
-        size = put_content(s, body, list, count, code, size);
+        put_content(s, body, names, code);
         at = place_behind(s, at, body);
     }
-    size
 }

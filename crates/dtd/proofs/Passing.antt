@@ -1,6 +1,5 @@
 -- What each pass over a text of the grammar leaves, and what it refuses. Assumes nothing.
-use Rattle.std.proofs.Common.{ℕ, zero, suc, ◌+◌, ◌*◌, ◌≤◌, ◌<◌, ◌≡◌, refl, sym, ◌∙◌, ap, subst, inl, inr, List, arith, length, take, drop, length-take, take-append-drop, ext_get_or, get_or-take}
-use Rattle.std.specs.Prelude.{Some, None}
+use Rattle.std.proofs.Common.{Some, None, ℕ, zero, suc, ◌+◌, ◌*◌, ◌≤◌, ◌<◌, ◌≡◌, refl, sym, ◌∙◌, ap, subst, inl, inr, List, arith, length, take, drop, length-take, take-append-drop, ext_get_or, get_or-take}
 use Rattle.grammar.specs.Tree.{Particle, Particles, Content, Declaration, Nth, first, later}
 use Rattle.grammar.specs.Grammar.{Cp, cp_name, cp_group, Children, as_choice, as_sequence, Row, closed, separated, Spec, spec_empty, spec_any, spec_text, spec_starred, spec_mixed, spec_children}
 use Rattle.grammar.specs.Grammar.{element, Items, no_more, a_space, a_comment, a_declaration}

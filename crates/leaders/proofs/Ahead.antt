@@ -1,9 +1,5 @@
 -- Being ahead is a strict order, and of two numbers one is ahead of the other. Assumes nothing.
-use Prim.Native.Nat.{ℕ, ◌≤◌, ◌<◌}
-use mathlib.Core.Path.{sym}
-use mathlib.Core.Logic.{◌≢◌, ◌⊎◌, inl, inr}
-use native.Mathlib.Nat.{eq-or-lt_of_le}
-use native.Mathlib.Omega.{arith}
+use Rattle.std.proofs.Common.{ℕ, ◌≤◌, ◌<◌, sym, ◌≢◌, ◌⊎◌, inl, inr, eq-or-lt_of_le, arith}
 use Rattle.table.proofs.Lists.{le_or_lt}
 use Rattle.leaders.specs.Leaders.{Ahead, more, lower}
 

@@ -1,12 +1,6 @@
 -- A number takes its place among the leaders of those below it, or comes behind all three: one law, by the place. Assumes nothing.
-use Prim.Native.Nat.{ℕ, zero, suc, ◌+◌, ◌≤◌, ◌<◌, min}
-use mathlib.Core.Path.{◌≡◌, refl, ◌∙◌}
-use mathlib.Core.Logic.{◌≢◌, inl, inr}
-use mathlib.Core.List.{List, [], ◌∷◌}
-use native.Mathlib.Nat.{eq-or-lt_of_le}
-use native.Mathlib.Omega.{arith}
-use borrow.Author.Count.{below_none, below_more}
-use lib.ListN.{length, get_or, get_or-eq_default}
+use Rattle.std.proofs.Common.{ℕ, zero, suc, ◌+◌, ◌≤◌, ◌<◌, min, ◌≡◌, refl, ◌∙◌, ◌≢◌, inl, inr, List, [], ◌∷◌, eq-or-lt_of_le, arith, below_none, below_more, length, get_or}
+use lib.ListN.{get_or-eq_default}
 use Rattle.table.proofs.Lists.{le_or_lt}
 use Rattle.table.proofs.Test.{settle, some, is_equal}
 use Rattle.leaders.specs.Leaders.{Ahead, more}

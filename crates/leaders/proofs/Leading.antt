@@ -1,13 +1,7 @@
 -- The leaders: there is one answer, it rests on how often each number comes and on nothing else, and of the leader at place k exactly k numbers are
 -- ahead. Assumes nothing.
-use Prim.Native.Nat.{ℕ, zero, suc, ◌<◌}
-use mathlib.Core.Path.{◌≡◌, sym, ◌∙◌}
-use mathlib.Core.Logic.{◌≢◌, inl, inr}
-use mathlib.Core.List.{List}
-use native.Mathlib.Nat.{eq-or-lt_of_le, suc_inj}
-use native.Mathlib.Omega.{arith}
-use lib.ListN.{get_or}
-use lib.Seq.{ext_get_or}
+use Rattle.std.proofs.Common.{ℕ, zero, suc, ◌<◌, ◌≡◌, sym, ◌∙◌, ◌≢◌, inl, inr, List, eq-or-lt_of_le, arith, get_or, ext_get_or}
+use native.Mathlib.Nat.{suc_inj}
 use Rattle.table.specs.HowMany.{HowMany}
 use Rattle.table.proofs.HowMany.{many_none, many_more, many_as}
 use Rattle.table.proofs.Lists.{le_or_lt}

@@ -29,6 +29,7 @@ fn upto(s: &[u8], a: usize, b: usize) -> bool
 
 // The names of the first 256 declarations, and how many declarations there are. An entry has two words: the place of a name in the text, and its
 // number, that of the first declaration with this name.
+#[derive(Drop)]
 pub struct NameList {
     pub entries: [u16; 512],
     pub count: usize,

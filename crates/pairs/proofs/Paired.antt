@@ -2,7 +2,6 @@
 use Prim.Native.Nat.{ℕ, zero, suc, ◌+◌, ◌-◌, ◌/◌, ◌%◌, ◌^◌, ◌≤◌, ◌<◌}
 use mathlib.Core.Path.{◌≡◌, sym, ap, ◌∙◌}
 use mathlib.Core.Logic.{◌≢◌, ◌⊎◌, inl, inr}
-use mathlib.Core.Bool.{Bool, true, false, ◌&&◌, ◌||◌}
 use mathlib.Core.List.{List}
 use native.Mathlib.Nat.{pow-suc, div-one, zero-div}
 use native.Mathlib.Decide.{ℕ_discrete}
@@ -12,7 +11,6 @@ use borrow.Author.Tests.{eq-eqb}
 use lib.ListN.{length, get_or, get_or-eq_default}
 use lib.Pow.{shr-shr, shr_lt}
 use Rattle.table.specs.Privilege.{privileges}
-use Rattle.table.specs.Steps.Found.{Tells}
 use Rattle.table.proofs.Lists.{le_or_lt}
 use Rattle.table.proofs.Answers.{answer_one, accepted_answer, lowest_one, refusal_not}
 use Rattle.policy.proofs.Bits.{none_shared}
@@ -24,17 +22,6 @@ use Rattle.pairs.specs.declared.check.PairFault.TheVariants.{Length, Both, Spare
 use Rattle.pairs.specs.Faults.{refusal_of, proposed_refusal, fault_number, fault_place}
 use Rattle.pairs.specs.Maps.{Maps, maps, bytes_for, Apart, Spare, Paired, Unpaired, length_off, both_set, spare_set, MapPolicy, NoMaps, table, pair}
 use Rattle.pairs.specs.Steps.Checking.{PairAnswer, unpaired, paired, MapsAnswer, refused, fits}
-
--- flags of two things
-tells_both : (P Q R : Type 0) → (P → Q → R) → (R → P × Q) → (p q : Bool) → Tells P p → Tells Q q → Tells R (p && q)
-tells_both P Q R f g true true a b = f a b
-tells_both P Q R f g true false a b = λ r. b (g r).1
-tells_both P Q R f g false q a b = λ r. a (g r).0
-
-pub tells_either : (P Q : Type 0) (p q : Bool) → Tells P p → Tells Q q → Tells (P ⊎ Q) (p || q)
-tells_either P Q true q a b = inl a
-tells_either P Q false true a b = inr b
-tells_either P Q false false a b = λ r. elim r [ inl x ↦ a x | inr y ↦ b y ]
 
 -- bytes that share no bit have no privilege with both
 pub none_both : (v : ℕ) (a f : List ℕ) → ((k : ℕ) → k < length a → bit_and (get_or a k 0) (get_or f k 0) ≡ 0) → (p : ℕ) → p < v → Apart (maps a f) p

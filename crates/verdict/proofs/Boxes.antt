@@ -1,13 +1,7 @@
 -- The first list of numbers, in the stated order, that passes a test, searched for within bounds. Assumes nothing.
-use Prim.Native.Nat.{ℕ, zero, suc, ◌<◌}
-use mathlib.Core.Path.{◌≡◌, refl}
-use mathlib.Core.Logic.{inl, inr}
-use mathlib.Core.Bool.{Bool, true, false}
-use mathlib.Core.List.{List, [], ◌∷◌}
+use Rattle.std.proofs.Common.{ℕ, zero, suc, ◌<◌, ◌≡◌, refl, inl, inr, Bool, true, false, List, [], ◌∷◌, eq-or-lt_of_le, arith, T}
 use mathlib.Core.Option.{Option, none, some}
-use native.Mathlib.Nat.{eq-or-lt_of_le, suc_inj}
-use native.Mathlib.Omega.{arith}
-use lib.Dec.{T}
+use native.Mathlib.Nat.{suc_inj}
 use Rattle.table.specs.Lex.{Lex}
 use Rattle.table.proofs.Lex.{lex_cases}
 

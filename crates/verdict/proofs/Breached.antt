@@ -1,10 +1,5 @@
 -- The first breach at one type, by its kind. B y p says that p is forbidden below type y. Assumes nothing.
-use Prim.Native.Nat.{ℕ, ◌+◌, ◌≤◌, ◌<◌}
-use mathlib.Core.Path.{◌≡◌, refl, sym, ap, subst, ◌∙◌}
-use mathlib.Core.Logic.{◌≢◌, ◌⊎◌, inl, inr}
-use mathlib.Core.List.{List, [], ◌∷◌}
-use Rattle.std.proofs.Common.{Option, Some, None}
-use native.Mathlib.Omega.{arith}
+use Rattle.std.proofs.Common.{Option, Some, None, ℕ, ◌+◌, ◌≤◌, ◌<◌, ◌≡◌, refl, sym, ap, subst, ◌∙◌, ◌≢◌, ◌⊎◌, inl, inr, List, [], ◌∷◌, arith}
 use Rattle.table.specs.Rule.{rule_at, kind_in, count_of, child_at, IsChoice, IsStar}
 use Rattle.table.specs.Steps.Numbering.{NumberedAs, replace_in}
 use Rattle.table.specs.declared.privilege.Numbering.{Numbering}

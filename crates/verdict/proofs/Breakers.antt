@@ -1,10 +1,6 @@
 -- What breaks a spot: the lowest privilege and how many there are, by its condition. Assumes nothing.
-use Prim.Native.Nat.{ℕ, ◌≤◌, ◌<◌}
-use mathlib.Core.Path.{◌≡◌, refl, sym, ap, subst, subst⁻¹, ◌∙◌}
-use mathlib.Core.Logic.{◌≢◌, inl, inr}
-use mathlib.Core.List.{List, []}
-use native.Mathlib.Omega.{arith}
-use lib.ListN.{length}
+use Rattle.std.proofs.Common.{ℕ, ◌≤◌, ◌<◌, ◌≡◌, refl, sym, ap, subst, ◌∙◌, ◌≢◌, inl, inr, List, [], arith, length}
+use mathlib.Core.Path.{subst⁻¹}
 use Rattle.table.specs.HowMany.{Tallied, some, nothing}
 use Rattle.table.specs.Words.{types}
 use Rattle.table.specs.Rule.{IsChoice, child_at}

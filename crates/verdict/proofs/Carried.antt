@@ -1,10 +1,5 @@
 -- Marks carried along: they can be carried back, there are such marks for each renumbering, and one list of them. Assumes nothing.
-use Prim.Native.Nat.{ℕ, zero, suc, ◌≤◌, ◌<◌}
-use mathlib.Core.Path.{◌≡◌, refl, sym, ap, ◌∙◌}
-use mathlib.Core.List.{List, [], ◌∷◌}
-use native.Mathlib.Omega.{arith}
-use lib.ListN.{length, get_or}
-use lib.Seq.{ext_get_or}
+use Rattle.std.proofs.Common.{ℕ, zero, suc, ◌≤◌, ◌<◌, ◌≡◌, refl, sym, ap, ◌∙◌, List, [], ◌∷◌, arith, length, get_or, ext_get_or}
 use Rattle.table.specs.Words.{types}
 use Rattle.table.specs.Privilege.{privileges, Edit, Offers, privilege_of}
 use Rattle.table.specs.Check.{Accepted}

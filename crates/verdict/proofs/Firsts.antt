@@ -1,12 +1,6 @@
 -- Breaches and their order: a first breach is the only one, none means clean, and what a search type by type has shown. Assumes nothing.
-use Prim.Native.Nat.{ℕ, ◌+◌, ◌≤◌, ◌<◌}
-use mathlib.Core.Path.{◌≡◌, refl, sym, ap, subst, ◌∙◌}
-use mathlib.Core.Logic.{◌≢◌, ◌⊎◌, inl, inr}
-use mathlib.Core.List.{List, [], ◌∷◌}
-use Rattle.std.proofs.Common.{Option, Some}
+use Rattle.std.proofs.Common.{Option, Some, ℕ, ◌+◌, ◌≤◌, ◌<◌, ◌≡◌, refl, sym, ap, subst, ◌∙◌, ◌≢◌, ◌⊎◌, inl, inr, List, [], ◌∷◌, arith, get_or}
 use Rattle.std.proofs.Common as std
-use native.Mathlib.Omega.{arith}
-use lib.ListN.{get_or}
 use Rattle.table.specs.Words.{types}
 use Rattle.table.specs.Privilege.{exchange_of, replace_of}
 use Rattle.table.proofs.HowMany.{many_one}

@@ -1,11 +1,7 @@
 -- A search by flags finds what a search by what is forbidden below each type would, if they tell of the same types that something is forbidden below
 -- them. Assumes nothing.
-use Prim.Native.Nat.{ℕ, ◌<◌}
-use mathlib.Core.Path.{refl}
-use mathlib.Core.List.{List}
-use Rattle.std.proofs.Common.{Option, Some}
+use Rattle.std.proofs.Common.{Option, Some, ℕ, ◌<◌, refl, List, arith}
 use Rattle.std.proofs.Common as std
-use native.Mathlib.Omega.{arith}
 use Rattle.table.specs.Words.{types}
 use Rattle.table.specs.Rule.{child_at, IsStar}
 use Rattle.table.specs.Check.{Accepted}

@@ -1,10 +1,6 @@
 -- What an allowed set forces: more from more; a policy is clean exactly if no forced privilege is forbidden, and exactly if the words of its format's
 -- document hold of it. Assumes nothing.
-use Prim.Native.Nat.{ℕ, ◌<◌}
-use mathlib.Core.Path.{◌≡◌, refl}
-use mathlib.Core.Logic.{◌⊎◌, inl, inr}
-use mathlib.Core.List.{List}
-use native.Mathlib.Omega.{arith}
+use Rattle.std.proofs.Common.{ℕ, ◌<◌, ◌≡◌, refl, ◌⊎◌, inl, inr, List, arith}
 use Rattle.table.specs.Words.{format_of}
 use Rattle.table.specs.Rule.{IsStar, child_at}
 use Rattle.table.specs.Privilege.{privileges, insert_of, delete_of, exchange_of, replace_of, SameKind, replace}

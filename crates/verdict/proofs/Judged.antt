@@ -1,7 +1,5 @@
 -- Judging a policy has one answer. Assumes nothing.
-use mathlib.Core.Path.{◌≡◌, sym, ap, ◌∙◌}
-use mathlib.Core.List.{List}
-use Prim.Native.Nat.{ℕ}
+use Rattle.std.proofs.Common.{◌≡◌, sym, ap, ◌∙◌, List, ℕ}
 use Rattle.verdict.specs.Answers.{refusal, verdict_of, JudgeAnswer, refused, judged}
 use Rattle.verdict.specs.declared.Answer.{Answer}
 use Rattle.policy.proofs.Policies.{refused_one, policy_not}

@@ -1,10 +1,6 @@
 -- The verdict on sample policies: a chain of four kinds, and the policies of documents 000 and 003. One table of rows, and one statement,
 -- proved by one computation. Every expected answer was worked out by hand from the documents. S1 to S10 stand in crate samples. Assumes nothing.
-use Prim.Native.Nat.{ℕ}
-use mathlib.Core.Path.{◌≡◌, refl}
-use mathlib.Core.Bool.{Bool, true, ◌&&◌}
-use mathlib.Core.List.{List, [], ◌∷◌, map}
-use lib.Dec.{T}
+use Rattle.std.proofs.Common.{ℕ, ◌≡◌, refl, Bool, true, ◌&&◌, List, [], ◌∷◌, map, T}
 use Rattle.table.specs.Sum.{sum_below}
 use Rattle.table.specs.Rule.{rule_of, rule_at, children_at, count_of}
 use Rattle.table.specs.Privilege.{gap_of, privileges_at, first_privilege, privileges, replace_of}

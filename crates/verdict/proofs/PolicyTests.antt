@@ -1,14 +1,8 @@
 -- Tests of what specs/ says of a table and its marks, and the verdict, computed by them: the first key of a breach within the bounds of all
 -- such keys. They hold of every run of words and of marks. Assumes nothing.
-use Prim.Native.Nat.{ℕ, zero, suc, ◌<◌}
-use mathlib.Core.Path.{◌≡◌, refl, ap, subst⁻¹}
-use mathlib.Core.Logic.{inl, inr}
-use mathlib.Core.Bool.{Bool, false}
-use mathlib.Core.List.{List, [], ◌∷◌, ◌++◌}
+use Rattle.std.proofs.Common.{ℕ, zero, suc, ◌<◌, ◌≡◌, refl, ap, inl, inr, Bool, false, List, [], ◌∷◌, ◌++◌, arith, T, length, get_or}
+use mathlib.Core.Path.{subst⁻¹}
 use mathlib.Core.Option.{Option, none, some as found}
-use native.Mathlib.Omega.{arith}
-use lib.Dec.{T}
-use lib.ListN.{length, get_or}
 use Rattle.table.specs.Words.{types}
 use Rattle.table.specs.Rule.{count_of, child_at}
 use Rattle.table.specs.Privilege.{privileges, insert_of, delete_of, exchange_of, replace_of}

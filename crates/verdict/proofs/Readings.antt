@@ -1,10 +1,6 @@
 -- What is read of kept entries, and the breach that it makes. Assumes nothing.
-use Prim.Native.Nat.{ℕ, ◌≤◌, ◌<◌}
-use mathlib.Core.Path.{◌≡◌, refl, sym, ap, subst, subst⁻¹, ◌∙◌}
-use mathlib.Core.Logic.{◌≢◌, ◌⊎◌, inl, inr}
-use mathlib.Core.List.{List}
-use native.Mathlib.Omega.{arith}
-use lib.ListN.{length}
+use Rattle.std.proofs.Common.{ℕ, ◌≤◌, ◌<◌, ◌≡◌, refl, sym, ap, subst, ◌∙◌, ◌≢◌, ◌⊎◌, inl, inr, List, arith, length}
+use mathlib.Core.Path.{subst⁻¹}
 use Rattle.table.specs.Rule.{child_at}
 use Rattle.table.specs.HowMany.{Tallied}
 use Rattle.table.specs.Privilege.{privileges, exchange_of, replace_of}

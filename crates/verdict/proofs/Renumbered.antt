@@ -1,9 +1,6 @@
 -- The order of the types never matters: an accepted table and the same one with its types renumbered are clean for the same policies, their
 -- marks carried along. What is forced in the one is forced in the other. Assumes nothing.
-use Prim.Native.Nat.{ℕ}
-use mathlib.Core.Path.{◌≡◌, ap, ◌∙◌}
-use mathlib.Core.List.{List}
-use native.Mathlib.Omega.{arith}
+use Rattle.std.proofs.Common.{ℕ, ◌≡◌, ap, ◌∙◌, List, arith}
 use Rattle.table.specs.Words.{types}
 use Rattle.table.specs.Rule.{IsStar}
 use Rattle.table.specs.Privilege as table

@@ -1,7 +1,5 @@
 -- Where a type has a breach, something below it is forbidden. Assumes nothing.
-use Prim.Native.Nat.{ℕ, ◌<◌}
-use mathlib.Core.List.{List}
-use native.Mathlib.Omega.{arith}
+use Rattle.std.proofs.Common.{ℕ, ◌<◌, List, arith}
 use Rattle.table.specs.Words.{types}
 use Rattle.table.specs.Rule.{child_at, count_of, IsStar}
 use Rattle.table.specs.Privilege.{exchange, replace}

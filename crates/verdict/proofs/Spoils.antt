@@ -1,12 +1,5 @@
 -- Whether something is forbidden of a type's own, and below it. Assumes nothing.
-use Prim.Native.Nat.{ℕ, suc, ◌+◌, ◌-◌, ◌≤◌, ◌<◌}
-use mathlib.Core.Path.{◌≡◌, refl, sym, ◌∙◌}
-use mathlib.Core.Logic.{◌≢◌, ◌⊎◌, inl, inr}
-use mathlib.Core.List.{List}
-use native.Mathlib.Nat.{eq-or-lt_of_le}
-use native.Mathlib.Omega.{arith}
-use lib.ListN.{length, get_or, set, take, drop, length-set, length-drop}
-use lib.Seq.{get_or-set_same, get_or-set_other, get_or-take, get_or-drop, length-take-le}
+use Rattle.std.proofs.Common.{ℕ, suc, ◌+◌, ◌-◌, ◌≤◌, ◌<◌, ◌≡◌, refl, sym, ◌∙◌, ◌≢◌, ◌⊎◌, inl, inr, List, eq-or-lt_of_le, arith, length, get_or, set, take, drop, length-set, length-drop, get_or-set_same, get_or-set_other, get_or-take, get_or-drop, length-take-le}
 use Rattle.table.specs.Words.{types}
 use Rattle.table.specs.Rule.{children_at, child_at, Child}
 use Rattle.table.specs.Privilege.{first_privilege, privileges_at, Belongs}

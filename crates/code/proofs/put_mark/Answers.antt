@@ -13,4 +13,4 @@ pub returns-then-is-3 : goal.returns-then-is-3
 returns-then-is-3 c = mark_put as_several c.if-is-3.ensures (add-one c.args.at) c.insert-then-is-3.ensures
 
 pub returns : goal.returns
-returns c = no_mark_put c.requires.0 c.if-is.ensures c.if-is-2.ensures c.if-is-3.ensures
+returns c = no_mark_put c.requires c.if-is.ensures c.if-is-2.ensures c.if-is-3.ensures

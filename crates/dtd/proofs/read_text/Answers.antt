@@ -4,9 +4,9 @@ use Rattle.dtd.specs.Answer.{refused}
 use Rattle.dtd.proofs.Passing.{collected, many_declared}
 use Rattle.dtd.proofs.read_text.Goals as goal
 
-pub returns-then-declared-gt256 : goal.returns-then-declared-gt256
-returns-then-declared-gt256 c = refused (many_declared c.requires.1 c.collect-declared.ensures (omega arith)) refl
+pub returns-then-names-gt256 : goal.returns-then-names-gt256
+returns-then-names-gt256 c = refused (many_declared c.requires.1 c.collect.ensures (omega arith)) refl
 
 pub read_named-requires : goal.read_named-requires
 read_named-requires c = let a = c.requires in
-    (a.0, collected a.1 c.collect-declared.ensures (omega arith))
+    (a.0, collected a.1 c.collect.ensures (omega arith))

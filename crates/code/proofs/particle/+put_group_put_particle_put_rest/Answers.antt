@@ -15,7 +15,7 @@ pub put_group-returns : goal.put_group-returns
 put_group-returns t c = group_single c.put_particle-p.ensures c.blanks-b.ensures c.if-is.ensures c.if-is-2.ensures c.behind.ensures
 
 pub put_particle-returns-then-depth-eq0 : goal.put_particle-returns-then-depth-eq0
-put_particle-returns-then-depth-eq0 t c = particle_deep c.args.depth (omega arith) c.if-is.ensures c.requires.0
+put_particle-returns-then-depth-eq0 t c = particle_deep c.args.depth (omega arith) c.if-is.ensures c.requires
 
 pub put_particle-returns-then-is : goal.put_particle-returns-then-is
 put_particle-returns-then-is t c = particle_group (omega arith) c.if-is.ensures (rw (add-one c.args.at) at c.blanks.ensures) c.put_group-g.ensures c.put_mark.ensures
@@ -40,13 +40,13 @@ put_rest-loop-i-preserved t c =
       w.inside,
       omega (arith, l.invariant.2, e.from, span_le s.blanks, span_le w.blanks),
       omega (arith, e.kept, l.invariant.3),
-      λ ds k qs f r h. rw (add-one l.n) (progress_on c.requires.2 k c.loop-i-test.ensures (rw (add-one l.i) at s) c.put_particle-p.ensures w (l.invariant.4 ds k qs f r h)),
+      λ ds k qs f r h. rw (add-one l.n) (progress_on c.requires.1 k c.loop-i-test.ensures (rw (add-one l.i) at s) c.put_particle-p.ensures w (l.invariant.4 ds k qs f r h)),
     )
 
 pub put_rest-returns : goal.put_rest-returns
 put_rest-returns t c =
     let l = c.loop-i in
     record {
-      ends = record { from = omega (arith, l.invariant.0, close_le c.behind.ensures); inside = close_in c.behind.ensures l.invariant.1; kept = omega (arith, c.insert.ensures.kept, l.invariant.3, c.requires.1) };
-      of = λ ds k d qs e r s. progress_ends c.requires.2 k c.args.kind d c.loop-i-test.ensures l.invariant.1 c.behind.ensures (omega (arith, c.min.ensures)) c.insert.ensures (l.invariant.4 ds k qs e r s);
+      ends = record { from = omega (arith, l.invariant.0, close_le c.behind.ensures); inside = close_in c.behind.ensures l.invariant.1; kept = omega (arith, c.insert.ensures.kept, l.invariant.3) };
+      of = λ ds k d qs e r s. progress_ends c.requires.1 k c.args.kind d c.loop-i-test.ensures l.invariant.1 c.behind.ensures (omega (arith, c.min.ensures)) c.insert.ensures (l.invariant.4 ds k qs e r s);
     }

@@ -15,9 +15,9 @@ decreases-put_rest l = 3 * l.depth + 1
 
 abbrev pub invariant-put_rest-loop-i : goal.invariant-put_rest-loop-i
 invariant-put_rest-loop-i l =
-    (l.at ≤ l.i) × (l.i ≤ length l.s) × (l.n + l.at ≤ suc l.i) × (length l.code ≡ 1280)
-    × ((ds : List Declaration) → Known l.s l.list l.count ds → (qs : List Particle) (e : ℕ) → RowRest l.s l.separator l.at e qs → EachShallow l.depth qs
-    → Progress l.s l.list l.depth l.at l.separator l.initial.code l.size ds qs e l.i l.n l.code l.end)
+    (l.at ≤ l.i) × (l.i ≤ length l.s) × (l.n + l.at ≤ suc l.i) × (length l.code.words ≡ 1280)
+    × ((ds : List Declaration) → Known l.s l.names.entries l.names.count ds → (qs : List Particle) (e : ℕ) → RowRest l.s l.separator l.at e qs → EachShallow l.depth qs
+    → Progress l.s l.names.entries l.depth l.at l.separator l.initial.code.words l.initial.code.size ds qs e l.i l.n l.code.words l.code.size)
 
 abbrev pub decreases-put_rest-loop-i : goal.decreases-put_rest-loop-i
 decreases-put_rest-loop-i l = length l.s - l.i

@@ -1,8 +1,6 @@
 -- The outer loop has passed the rows before i, the inner one the columns before j. Assumes nothing.
 use Rattle.verdict.specs.Steps.Visits.{Broken}
-use Rattle.std.proofs.Common.{None}
-use mathlib.Core.Path.{◌≡◌}
-use Prim.Native.Nat.{ℕ, ◌≤◌, ◌<◌}
+use Rattle.std.proofs.Common.{None, ◌≡◌, ℕ, ◌≤◌, ◌<◌}
 use Rattle.verdict.proofs.breaches.first_broken.Given as goal
 
 abbrev pub invariant-loop-j : goal.invariant-loop-j
