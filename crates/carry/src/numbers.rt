@@ -1,5 +1,5 @@
 // Checking the list of new numbers. Contracts cite specs/Numbers and specs/Steps/Using.
-ghost use Rattle.std.specs.Prelude.{◌≡◌, ◌≤◌, length};
+ghost use Rattle.std.specs.Prelude.{◌≤◌, length};
 ghost use Rattle.table.specs.Steps.Found.{Lowest, Tells};
 ghost use Rattle.table.specs.Refusals.{number_in, no_place_in};
 ghost use Rattle.carry.specs.Numbers.{EntryFits};
@@ -17,7 +17,6 @@ fn is_usable(used: &[u8; 256], e: usize, y: usize) -> bool
 
 // Marks the number as used, unless it is 65,535.
 fn use_number(used: &mut [u8; 256], y: usize)
-    requires { length used.old ≡ 256 }
     ensures { UsedToo y used.old used.new }
 {
     if y < 256 {

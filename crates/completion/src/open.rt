@@ -7,7 +7,7 @@ use policy::rows::leads;
 
 // Opens all children.
 pub fn open_all(opened: &mut [u8; 256], kids: &[u16])
-    requires { (length opened.old ≡ 256) × ((i : ℕ) → i < length kids.now → get_or kids.now i 0 < 256) }
+    requires { (i : ℕ) → i < length kids.now → get_or kids.now i 0 < 256 }
     ensures { KidsOpened (λ i. Unit) kids.now opened.old opened.new }
 {
     for &kid in kids {
@@ -17,7 +17,7 @@ pub fn open_all(opened: &mut [u8; 256], kids: &[u16])
 
 // Opens each child from which the square leads back to it.
 pub fn open_cycles(opened: &mut [u8; 256], kids: &[u16], square: &[u16; 16])
-    requires { (length opened.old ≡ 256) × (length kids.now ≤ 16) × ((i : ℕ) → i < length kids.now → get_or kids.now i 0 < 256) }
+    requires { (length kids.now ≤ 16) × ((i : ℕ) → i < length kids.now → get_or kids.now i 0 < 256) }
     ensures { KidsOpened (λ i. marked square.now i i ≡ true) kids.now opened.old opened.new }
 {
     for (i, &kid) in kids.iter().enumerate() {

@@ -2,7 +2,6 @@
 // its privilege is below, and nothing else. Contracts cite specs/Answer and specs/Entries; specs/Steps for the parts.
 #![tactic(auto)]
 
-ghost use Rattle.std.specs.Prelude.{◌≡◌, length};
 ghost use Rattle.table.specs.Refusals.{number_in, no_place_in};
 ghost use Rattle.verdict.specs.Results.{judged_answer};
 ghost use Rattle.editing.specs.Answer.{EditAnswer};
@@ -29,7 +28,6 @@ fn check_edit(
     mark: u8,
     order: &mut [u8; 256],
 ) -> Result<(), Refusal>
-    requires { length order.old ≡ 256 }
     ensures { OrderedEdit words.now marks.now n privilege mark order.new (number_in result) (no_place_in result) }
 {
     let v = check_policy(words, marks, order)?;

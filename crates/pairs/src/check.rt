@@ -128,7 +128,6 @@ pub fn check_maps(
     forbidden: &[u8],
     order: &mut [u8; 256],
 ) -> Result<usize, Refusal>
-    requires { length order.old ≡ 256 }
     ensures { OrderedMaps words.now (maps allowed.now forbidden.now) order.new (number_in result) (place_in result) }
 {
     let v = check_ordered(words, order)?;

@@ -17,7 +17,7 @@ fn bit(byte: u8, j: usize) -> u8
 
 // Writes the eight marks that a byte of each map spells.
 fn spell_byte(marks: &mut [u8; 4096], at: usize, allowed: u8, forbidden: u8)
-    requires { (length marks.old ≡ 4096) × (at + 8 ≤ 4096) }
+    requires { at + 8 ≤ 4096 }
     ensures { ByteSpelled allowed forbidden at marks.old marks.new }
 {
     for j in 0..8 {
@@ -27,7 +27,7 @@ fn spell_byte(marks: &mut [u8; 4096], at: usize, allowed: u8, forbidden: u8)
 
 // Writes the marks that two maps spell.
 pub fn spell(allowed: &[u8], forbidden: &[u8], marks: &mut [u8; 4096])
-    requires { (length marks.old ≡ 4096) × (length allowed.now ≤ 512) × (length forbidden.now ≡ length allowed.now) }
+    requires { (length allowed.now ≤ 512) × (length forbidden.now ≡ length allowed.now) }
     ensures { Spelled (length allowed.now) (maps allowed.now forbidden.now) marks.old marks.new }
 {
     for k in 0..allowed.len() {

@@ -17,7 +17,7 @@ pub is_roomy-requires : goal.is_roomy-requires
 is_roomy-requires c = (known c.in_ok-v.ensures.answer).few
 
 pub spell-requires : goal.spell-requires
-spell-requires c = let k = known c.in_ok-v.ensures.answer in (refl, k.room.0, k.room.1)
+spell-requires c = (known c.in_ok-v.ensures.answer).room
 
 pub slice_bounds-first_breach-end : goal.slice_bounds-first_breach-end
 slice_bounds-first_breach-end c = omega (arith, (known c.in_ok-v.ensures.answer).few, c.spell.ensures.size)

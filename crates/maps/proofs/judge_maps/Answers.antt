@@ -13,7 +13,7 @@ returns-in_err-v c = let p = err_from_is_err_and c.from_residual.result c.from_r
     rw (p.1, p.2) (refused (maps_none c.in_err-v.field-0.0 c.in_err-v.ensures.answer) refl)
 
 pub spell-requires : goal.spell-requires
-spell-requires c = let k = known c.in_ok-v.ensures.answer in (refl, k.room.0, k.room.1)
+spell-requires c = (known c.in_ok-v.ensures.answer).room
 
 pub slice_bounds-first_breach-end : goal.slice_bounds-first_breach-end
 slice_bounds-first_breach-end c = omega (arith, (known c.in_ok-v.ensures.answer).few, c.spell.ensures.size)

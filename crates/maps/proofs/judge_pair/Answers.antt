@@ -17,8 +17,7 @@ returns-in-Some c = let pre = c.requires in
     changed (spells_policy pre.0) (paired_fit pre.1) (rw pre.2 at (rw c.in-Some.is at c.lowest_change-found.ensures)) refl
 
 pub spell-requires : goal.spell-requires
-spell-requires c = let room = spell_room c.requires.1.sized (facts c.requires.0.accepted).privileges_few in
-    (refl, room.0, room.1)
+spell-requires c = spell_room c.requires.1.sized (facts c.requires.0.accepted).privileges_few
 
 pub slice_bounds-first_breach-end : goal.slice_bounds-first_breach-end
 slice_bounds-first_breach-end c = omega (arith, c.requires.2, (facts c.requires.0.accepted).privileges_few, c.spell.ensures.size)

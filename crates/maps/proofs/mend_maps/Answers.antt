@@ -16,7 +16,7 @@ pub is_roomy-requires : goal.is_roomy-requires
 is_roomy-requires c = (known c.in_ok-v.ensures.answer).few
 
 pub spell-requires : goal.spell-requires
-spell-requires c = let k = known c.in_ok-v.ensures.answer in (refl, k.room.0, k.room.1)
+spell-requires c = (known c.in_ok-v.ensures.answer).room
 
 pub mend_into-requires : goal.mend_into-requires
 mend_into-requires c = let k = known c.in_ok-v.ensures.answer in

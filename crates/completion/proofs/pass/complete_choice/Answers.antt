@@ -12,7 +12,7 @@ pub open_cycles-requires : goal.open_cycles-requires
 open_cycles-requires c = let visit = c.requires.0 in
     let kids = c.children.ensures in
     let accepted = visit.policy.accepted in
-    (visit.size, kids_few accepted kids visit.type, kids_small accepted kids visit.type)
+    (kids_few accepted kids visit.type, kids_small accepted kids visit.type)
 
 pub write_choice-requires : goal.write_choice-requires
 write_choice-requires c = let numbered : let a = c.args in NumberedAs a.words.now a.x c.numbers_at-n.result = c.numbers_at-n.ensures in

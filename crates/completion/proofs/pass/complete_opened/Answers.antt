@@ -10,7 +10,7 @@ children-requires c = let visit = c.requires.0 in has_children visit.policy.acce
 
 pub open_all-requires : goal.open_all-requires
 open_all-requires c = let visit = c.requires.0 in
-    (visit.size, kids_small visit.policy.accepted c.children.ensures (omega (arith, visit.type)))
+    kids_small visit.policy.accepted c.children.ensures (omega (arith, visit.type))
 
 pub privileges_at-requires : goal.privileges_at-requires
 privileges_at-requires c = let visit = c.requires.0 in has_record visit.policy.accepted visit.type

@@ -18,7 +18,7 @@ children-requires c = let visit = c.requires.0 in has_children visit.policy.acce
 
 pub open_all-requires : goal.open_all-requires
 open_all-requires c = let visit = c.requires.0 in
-    (visit.size, kids_small visit.policy.accepted c.children.ensures (omega (arith, visit.type)))
+    kids_small visit.policy.accepted c.children.ensures (omega (arith, visit.type))
 
 pub write_exchange-requires : goal.write_exchange-requires
 write_exchange-requires c = let numbered : let a = c.args in NumberedAs a.words.now a.x c.numbers_at-n.result = c.numbers_at-n.ensures in
