@@ -11,12 +11,25 @@ use entering::{enter_declared, enter_made};
 use runs::part;
 use table::words::word_at;
 
-// The label of type x.
-pub fn label<'a>(names: &'a [u8], starts: &[u16], x: usize) -> &'a [u8]
-    requires { x < 256 }
-    ensures { result.now ≡ label_in names.now starts.now x }
-{
-    part(names, word_at(starts, x), word_at(starts, x + 1))
+// The labels of types: their bytes one after another, and where each begins.
+#[derive(Clone, Copy)]
+pub struct Labels<'a> {
+    pub names: &'a [u8],
+    pub starts: &'a [u16],
+}
+
+impl<'a> Labels<'a> {
+    // The label of type x.
+    pub fn label(self, x: usize) -> &'a [u8]
+        requires { x < 256 }
+        ensures { result.now ≡ label_in self.entry.names.now self.entry.starts.now x }
+    {
+        part(
+            self.names,
+            word_at(self.starts, x),
+            word_at(self.starts, x + 1),
+        )
+    }
 }
 
 // Puts the labels of the first e types of a text, one after another, and where each begins.

@@ -9,7 +9,7 @@ ghost use Rattle.reading.specs.Steps.Edits.{EditRead, StarRead, Kinds, ChoiceRea
 ghost use Rattle.reading.specs.Steps.Reading.{Readable};
 
 use super::matching::{Ended, after, after_three, after_two, find_kid};
-use labels::label;
+use labels::Labels;
 use table::privilege::{
     Numbering, deletion, exchange, insertion, is_exchangeable, numbers_at, replacement,
 };
@@ -51,20 +51,13 @@ fn is_replaceable(n: Numbering, i: usize, j: usize) -> bool
 }
 
 // The edit at a choice with these kids.
-fn choice_at(
-    names: &[u8],
-    starts: &[u16],
-    kids: &[u16],
-    n: Numbering,
-    l: &[u8],
-    at: usize,
-) -> Option<Ended>
-    requires { Kinds (label_in names.now starts.now) kids.now n × (at ≤ length l.now) }
-    ensures { ChoiceRead (label_in names.now starts.now) kids.now n l.now at result }
+fn choice_at(labels: Labels<'_>, kids: &[u16], n: Numbering, l: &[u8], at: usize) -> Option<Ended>
+    requires { Kinds (label_in labels.names.now labels.starts.now) kids.now n × (at ≤ length l.now) }
+    ensures { ChoiceRead (label_in labels.entry.names.now labels.entry.starts.now) kids.now n l.now at result }
 {
     let verb = after(l, at, b"replace", b' ')?;
-    let from = find_kid(names, starts, kids, n.count, l, verb, b' ')?;
-    let to = find_kid(names, starts, kids, n.count, l, from.end, b'\n')?;
+    let from = find_kid(labels, kids, n.count, l, verb, b' ')?;
+    let to = find_kid(labels, kids, n.count, l, from.end, b'\n')?;
     if !is_replaceable(n, from.number, to.number) {
         return None;
     }
@@ -77,15 +70,14 @@ fn choice_at(
 // The edit at type x, whose first privilege is given.
 pub(crate) fn edit_at(
     words: &[u16],
-    names: &[u8],
-    starts: &[u16],
+    labels: Labels<'_>,
     x: usize,
     first: usize,
     l: &[u8],
     at: usize,
 ) -> Option<Ended>
-    requires { Readable words.now names.now starts.now × (x < types words.now) × (first ≡ first_privilege words.now x) × (at ≤ length l.now) }
-    ensures { EditRead (label_in names.now starts.now) words.now x l.now at result }
+    requires { Readable words.now labels.names.now labels.starts.now × (x < types words.now) × (first ≡ first_privilege words.now x) × (at ≤ length l.now) }
+    ensures { EditRead (label_in labels.entry.names.now labels.entry.starts.now) words.now x l.now at result }
 {
     let n = numbers_at(words, x, first);
     match rule_at(words, x) {
@@ -93,8 +85,8 @@ pub(crate) fn edit_at(
             let end = after(l, at, b"text", b'\n')?;
             Some(Ended { number: first, end })
         }
-        Rule::Choice { .. } => choice_at(names, starts, children(words, x), n, l, at),
-        Rule::Star { .. } => star_at(n, label(names, starts, child_at(words, x, 0)), l, at),
+        Rule::Choice { .. } => choice_at(labels, children(words, x), n, l, at),
+        Rule::Star { .. } => star_at(n, labels.label(child_at(words, x, 0)), l, at),
         Rule::Empty | Rule::Sequence { .. } => None,
     }
 }

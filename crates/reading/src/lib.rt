@@ -10,6 +10,7 @@ mod edits;
 mod lines;
 mod matching;
 
+use labels::Labels;
 use lines::read_line;
 use table::Refusal;
 use table::privilege::first_privileges;
@@ -17,13 +18,12 @@ use table::privilege::first_privileges;
 // Reads the lines of a listing into marks that are all unset, or refuses with the first byte of the first line at fault.
 pub fn read_lines(
     words: &[u16],
-    names: &[u8],
-    starts: &[u16],
+    labels: Labels<'_>,
     listing: &[u8],
     marks: &mut [u8; 4096],
 ) -> Result<(), Refusal>
-    requires { Readable words.now names.now starts.now × (length marks.old ≡ 4096) × ((p : ℕ) → get_or marks.old p 0 ≡ 0) }
-    ensures { LinesRead (label_in names.now starts.now) words.now listing.now (number_in result) (no_place_in result) marks.new }
+    requires { Readable words.now labels.names.now labels.starts.now × (length marks.old ≡ 4096) × ((p : ℕ) → get_or marks.old p 0 ≡ 0) }
+    ensures { LinesRead (label_in labels.entry.names.now labels.entry.starts.now) words.now listing.now (number_in result) (no_place_in result) marks.new }
 {
     let mut firsts = [0u16; 256];
     first_privileges(words, &mut firsts);
@@ -32,7 +32,7 @@ pub fn read_lines(
     let mut near = 0;
     // A while: the place moves on by a line.
     while at < listing.len() {
-        let Some(line) = read_line(words, names, starts, &firsts, listing, at, near) else {
+        let Some(line) = read_line(words, labels, &firsts, listing, at, near) else {
             return Err(Refusal::NoLine(at));
         };
         let p = line.privilege;

@@ -4,7 +4,7 @@ ghost use Rattle.labels.specs.Steps.Booked.{label_in};
 ghost use Rattle.listing.specs.Line.{spaced};
 ghost use Rattle.reading.specs.Steps.Matching.{ended, blanked, Matched, Sought, SignRead};
 
-use labels::label;
+use labels::Labels;
 use table::words::word_at;
 
 // A number by the text that stands for it, and the place behind that text.
@@ -56,8 +56,7 @@ pub(crate) fn after_three(
 
 // The first of the first n kids whose label and the byte that ends it stand at a place.
 pub(crate) fn find_kid(
-    names: &[u8],
-    starts: &[u16],
+    labels: Labels<'_>,
     kids: &[u16],
     n: usize,
     l: &[u8],
@@ -65,10 +64,10 @@ pub(crate) fn find_kid(
     stop: u8,
 ) -> Option<Ended>
     requires { (at ≤ length l.now) × ((k : ℕ) → k < n → get_or kids.now k 0 < 256) }
-    ensures { Sought (λ k. ended (label_in names.now starts.now (get_or kids.now k 0)) stop) l.now at 0 n result }
+    ensures { Sought (λ k. ended (label_in labels.entry.names.now labels.entry.starts.now (get_or kids.now k 0)) stop) l.now at 0 n result }
 {
     for k in 0..n {
-        if let Some(end) = after(l, at, label(names, starts, word_at(kids, k)), stop) {
+        if let Some(end) = after(l, at, labels.label(word_at(kids, k)), stop) {
             return Some(Ended { number: k, end });
         }
     }
@@ -76,19 +75,12 @@ pub(crate) fn find_kid(
 }
 
 // The first of the types between two whose label and a blank stand at a place.
-fn find_between(
-    names: &[u8],
-    starts: &[u16],
-    from: usize,
-    to: usize,
-    l: &[u8],
-    at: usize,
-) -> Option<Ended>
+fn find_between(labels: Labels<'_>, from: usize, to: usize, l: &[u8], at: usize) -> Option<Ended>
     requires { (at ≤ length l.now) × (to ≤ 256) }
-    ensures { Sought (λ x. blanked (label_in names.now starts.now x)) l.now at from to result }
+    ensures { Sought (λ x. blanked (label_in labels.entry.names.now labels.entry.starts.now x)) l.now at from to result }
 {
     for x in from..to {
-        if let Some(end) = after(l, at, label(names, starts, x), b' ') {
+        if let Some(end) = after(l, at, labels.label(x), b' ') {
             return Some(Ended { number: x, end });
         }
     }
@@ -97,21 +89,20 @@ fn find_between(
 
 // The type whose label and a blank stand at a place, looked for from the type of the line before on, which is where it is in an ascending listing.
 pub(crate) fn find_type(
-    names: &[u8],
-    starts: &[u16],
+    labels: Labels<'_>,
     e: usize,
     l: &[u8],
     at: usize,
     near: usize,
 ) -> Option<Ended>
     requires { (at ≤ length l.now) × (e ≤ 256) × (near ≤ e) }
-    ensures { Sought (λ x. blanked (label_in names.now starts.now x)) l.now at 0 e result }
+    ensures { Sought (λ x. blanked (label_in labels.entry.names.now labels.entry.starts.now x)) l.now at 0 e result }
 {
-    let behind = find_between(names, starts, near, e, l, at);
+    let behind = find_between(labels, near, e, l, at);
     if behind.is_some() {
         return behind;
     }
-    find_between(names, starts, 0, near, l, at)
+    find_between(labels, 0, near, l, at)
 }
 
 // The mark of the sign that stands at a place with a blank behind it.

@@ -7,4 +7,4 @@ use Rattle.mailing.specs.Steps.Continuing.{Continues}
 use Rattle.mailing.proofs.put_lines.Given as goal
 
 abbrev pub invariant-loop-x : goal.invariant-loop-x
-invariant-loop-x l = (l.x ≤ types l.words) × (l.first ≡ first_privilege l.words l.x) × Continues (label_in l.names l.starts) l.words l.marks 0 l.first l.initial.out 0 l.out l.end
+invariant-loop-x l = (l.x ≤ types l.words) × (l.first ≡ first_privilege l.words l.x) × Continues (label_in l.labels.names.now l.labels.starts.now) l.words l.marks 0 l.first l.initial.out 0 l.out l.end

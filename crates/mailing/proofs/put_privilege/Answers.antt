@@ -16,7 +16,7 @@ pub put_line-requires : goal.put_line-requires
 put_line-requires c = let a = c.args in
     let p = c.requires in
     let f = facts p.0.accepted in (
-      all_brief a.names.now a.starts.now f.few p.0.labelled c.named_at-edit.result (names_inside p.0.accepted c.named_at-edit.ensures),
+      all_brief a.labels.names.now a.labels.starts.now f.few p.0.labelled c.named_at-edit.result (names_inside p.0.accepted c.named_at-edit.ensures),
       omega (arith, p.3, belongs_below p.1, f.privileges_few),
     )
 
@@ -24,6 +24,6 @@ pub returns : goal.returns
 returns c = let a = c.args in
     let p = c.requires in
     let edit = c.named_at-edit.ensures in
-    let label : ℕ → List ℕ = label_in a.names.now a.starts.now in
+    let label : ℕ → List ℕ = label_in a.labels.names.now a.labels.starts.now in
     let line = edit_line {p = a.p} label (get_or a.marks.now a.p 0) edit (omega (arith, p.1.from, p.2)) in
     continues_set (λ e. omega arith) line (line_length p.0.accepted p.0.labelled line) c.put_line.ensures

@@ -11,8 +11,8 @@ put_parts-parts-requires c = let p = c.requires in (p.0, omega (arith, p.1, c.pu
 
 pub put-requires : goal.put-requires
 put-requires c = let a = c.args in
-    omega (arith, c.requires.1, c.put_sign-sign.ensures.end, c.put_parts-parts.ensures.end, sign_length a.mark, parts_few a.names.now a.starts.now a.edit c.requires.0)
+    omega (arith, c.requires.1, c.put_sign-sign.ensures.end, c.put_parts-parts.ensures.end, sign_length a.mark, parts_few a.labels.names.now a.labels.starts.now a.edit c.requires.0)
 
 pub returns : goal.returns
 returns c = let a = c.args in
-    fits_line (parts_of (label_in a.names.now a.starts.now) (named_by a.edit)) c.put_sign-sign.ensures c.put_parts-parts.ensures c.put.ensures
+    fits_line (parts_of (label_in a.labels.names.now a.labels.starts.now) (named_by a.edit)) c.put_sign-sign.ensures c.put_parts-parts.ensures c.put.ensures

@@ -8,12 +8,12 @@ use Rattle.mailing.proofs.line.put_parts.Goals as goal
 
 pub returns-in-Text : goal.returns-in-Text
 returns-in-Text c = let a = c.args in
-    fits_as (ap blanked (parts_text (label_in a.names.now a.starts.now) c.in-Text.is)) c.put_verb.ensures
+    fits_as (ap blanked (parts_text (label_in a.labels.names.now a.labels.starts.now) c.in-Text.is)) c.put_verb.ensures
 
 pub returns-in-Insert : goal.returns-in-Insert
 returns-in-Insert c = let a = c.args in
-    fits_as (ap blanked (parts_insert (label_in a.names.now a.starts.now) c.in-Insert.is)) c.put_child.ensures
+    fits_as (ap blanked (parts_insert (label_in a.labels.names.now a.labels.starts.now) c.in-Insert.is)) c.put_child.ensures
 
 pub returns-in-Delete : goal.returns-in-Delete
 returns-in-Delete c = let a = c.args in
-    fits_as (ap blanked (parts_delete (label_in a.names.now a.starts.now) c.in-Delete.is)) c.put_child-in-Delete.ensures
+    fits_as (ap blanked (parts_delete (label_in a.labels.names.now a.labels.starts.now) c.in-Delete.is)) c.put_child-in-Delete.ensures

@@ -22,7 +22,7 @@ children-requires c = let p = c.requires in has_children p.0.accepted p.1
 pub choice_at-requires : goal.choice_at-requires
 choice_at-requires c = let a = c.args in
     let p = c.requires in (
-      subst (λ (kids : List ℕ). Kinds (label_in a.names.now a.starts.now) kids c.numbers_at-n.result) (sym c.children.ensures) (kinds_at p.0.accepted p.0.labelled p.1 c.numbers_at-n.ensures),
+      subst (λ (kids : List ℕ). Kinds (label_in a.labels.names.now a.labels.starts.now) kids c.numbers_at-n.result) (sym c.children.ensures) (kinds_at p.0.accepted p.0.labelled p.1 c.numbers_at-n.ensures),
       p.3,
     )
 
@@ -36,22 +36,22 @@ label-requires c = let p = c.requires in
 pub returns-in_err-end-in-Text : goal.returns-in_err-end-in-Text
 returns-in_err-end-in-Text c = let a = c.args in
     rw c.from_residual.ensures
-    (edit_no_text (label_in a.names.now a.starts.now) a.l.now a.at (of_kind _ c.requires.1 (sym c.rule_at.ensures.is) c.in-Text.is) c.in_err-end-in-Text.ensures)
+    (edit_no_text (label_in a.labels.names.now a.labels.starts.now) a.l.now a.at (of_kind _ c.requires.1 (sym c.rule_at.ensures.is) c.in-Text.is) c.in_err-end-in-Text.ensures)
 
 pub returns-in_ok-end-in-Text : goal.returns-in_ok-end-in-Text
 returns-in_ok-end-in-Text c = let a = c.args in
-    edit_text (label_in a.names.now a.starts.now) a.l.now a.at (of_kind _ c.requires.1 (sym c.rule_at.ensures.is) c.in-Text.is) c.requires.2 c.in_ok-end-in-Text.ensures
+    edit_text (label_in a.labels.names.now a.labels.starts.now) a.l.now a.at (of_kind _ c.requires.1 (sym c.rule_at.ensures.is) c.in-Text.is) c.requires.2 c.in_ok-end-in-Text.ensures
 
 pub returns-in-Choice : goal.returns-in-Choice
 returns-in-Choice c = let a = c.args in
-    let label = label_in a.names.now a.starts.now in
+    let label = label_in a.labels.names.now a.labels.starts.now in
     let r = c.choice_at.result in
     edit_choice label a.l.now a.at r (of_kind _ c.requires.1 (sym c.rule_at.ensures.is) c.in-Choice.is) c.numbers_at-n.ensures
     (subst (λ (kids : List ℕ). ChoiceRead label kids c.numbers_at-n.result a.l.now a.at r) c.children.ensures c.choice_at.ensures)
 
 pub returns-in-Star : goal.returns-in-Star
 returns-in-Star c = let a = c.args in
-    let label = label_in a.names.now a.starts.now in
+    let label = label_in a.labels.names.now a.labels.starts.now in
     let r = c.star_at.result in
     edit_star label a.l.now a.at r (of_kind _ c.requires.1 (sym c.rule_at.ensures.is) c.in-Star.is) c.numbers_at-n.ensures
     (subst (λ (child : List ℕ). StarRead c.numbers_at-n.result child a.l.now a.at r) (c.label.ensures ∙ ap label c.child_at.ensures) c.star_at.ensures)

@@ -5,4 +5,4 @@ use Rattle.reading.proofs.Standing.{Unsought}
 use Rattle.reading.proofs.matching.find_between.Given as goal
 
 abbrev pub invariant-loop-x : goal.invariant-loop-x
-invariant-loop-x loop = Unsought (λ k. ended (label_in loop.names loop.starts k) 32) loop.l loop.at loop.from loop.x
+invariant-loop-x loop = Unsought (λ k. ended (label_in loop.labels.names.now loop.labels.starts.now k) 32) loop.l loop.at loop.from loop.x
