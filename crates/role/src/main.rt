@@ -9,14 +9,18 @@ ghost use Rattle.std.specs.Prelude.{◌≤◌, length};
 
 use mail::{read_listing, read_schema, write_listing};
 use packing::{pack, put_refusal, put_table, words_of};
-use runs::{is_same, part};
+use runs::part;
 use std::env::FillError;
 use std::fs::File;
 use std::io;
 use std::io::Write;
 use std::rt::{Env, Files};
 use stream::read_full;
-use table::words::lesser;
+use table::Refusal;
+
+fn refuse(refusals: &mut impl Write, refusal: Refusal) -> io::Result<()> {
+    put_refusal(refusals, b"role", refusal.number(), refusal.place())
+}
 
 // Writes the policy of a listing: the table, then the marks.
 fn put_policy(
@@ -27,18 +31,16 @@ fn put_policy(
     listing: &[u8],
 ) -> io::Result<()> {
     let mut words = [0u16; 1800];
-    let checked = read_schema(text, format, &mut words);
-    if checked.number > 0 {
-        return put_refusal(refusals, b"role", checked.number, checked.place);
-    }
+    let v = match read_schema(text, format, &mut words) {
+        Ok(v) => v,
+        Err(refusal) => return refuse(refusals, refusal),
+    };
     let mut marks = [0u8; 4096];
-    let told = read_listing(text, format, listing, &mut marks);
-    if told.number > 0 {
-        return put_refusal(refusals, b"role", told.number, told.place);
+    if let Err(refusal) = read_listing(text, format, listing, &mut marks) {
+        return refuse(refusals, refusal);
     }
     put_table(out, &words)?;
-    let v = lesser(checked.place, 4096);
-    out.write_all(&marks[0..v])
+    out.write_all(&marks[..v.min(4096)])
 }
 
 // Writes the listing of marks.
@@ -50,32 +52,25 @@ fn put_listing(
     marks: &[u8],
 ) -> io::Result<()> {
     let mut listing = [0u8; 446464];
-    let told = write_listing(text, format, marks, &mut listing);
-    if told.number > 0 {
-        return put_refusal(refusals, b"role", told.number, told.place);
+    match write_listing(text, format, marks, &mut listing) {
+        Ok(size) => out.write_all(part(&listing, 0, size)),
+        Err(refusal) => refuse(refusals, refusal),
     }
-    out.write_all(part(&listing, 0, told.place))
-}
-
-fn joined(low: u8, high: u8) -> u16 {
-    (low as u16) + 256 * (high as u16)
 }
 
 // Word 0 of a policy, its format; 0 where there is none.
 fn format_of(policy: &[u8]) -> u16 {
-    if policy.len() < 2 {
-        return 0;
+    match policy {
+        [low, high, ..] => u16::from_le_bytes([*low, *high]),
+        _ => 0,
     }
-    joined(policy[0], policy[1])
 }
 
 // Does the policy begin with this table?
 fn is_over(policy: &[u8], words: &[u16; 1800]) -> bool {
     let mut bytes = [0u8; 3600];
     pack(words, &mut bytes);
-    let n = 2 * words_of(words);
-    let front = part(policy, 0, n);
-    is_same(&bytes[0..n], front)
+    policy.starts_with(&bytes[..2 * words_of(words)])
 }
 
 // Writes the listing of a policy whose table is that of the text in its format.
@@ -87,9 +82,8 @@ fn put_marks(
 ) -> io::Result<()> {
     let format = format_of(policy);
     let mut words = [0u16; 1800];
-    let checked = read_schema(text, format, &mut words);
-    if checked.number > 0 {
-        return put_refusal(refusals, b"role", checked.number, checked.place);
+    if let Err(refusal) = read_schema(text, format, &mut words) {
+        return refuse(refusals, refusal);
     }
     if is_over(policy, &words) {
         let n = 2 * words_of(&words);
@@ -104,17 +98,11 @@ fn put_marks(
 fn argument(rt: &impl Env, i: usize, buffer: &mut [u8]) -> usize
     ensures { result ≤ length buffer.new }
 {
-    match rt.arg(i, buffer) {
-        Ok(n) => n,
-        Err(_) => 0,
-    }
+    rt.arg(i, buffer).unwrap_or(0)
 }
 
 fn is_given(rt: &impl Env, i: usize) -> bool {
-    match rt.arg(i, &mut []) {
-        Err(FillError::NotPresent) => false,
-        _ => true,
-    }
+    !matches!(rt.arg(i, &mut []), Err(FillError::NotPresent))
 }
 
 // How many arguments there are, the program's own name among them; 5 where there are more.
@@ -133,10 +121,10 @@ const EINVAL: i32 = 22;
 const ENAMETOOLONG: i32 = 36;
 
 fn error_of(error: FillError) -> io::Error {
-    match error {
-        FillError::NotPresent => io::Error::from_raw_os_error(EINVAL),
-        FillError::TooLong => io::Error::from_raw_os_error(ENAMETOOLONG),
-    }
+    io::Error::from_raw_os_error(match error {
+        FillError::NotPresent => EINVAL,
+        FillError::TooLong => ENAMETOOLONG,
+    })
 }
 
 // Writes a line: what failed, and the system's words for why. The error's text has its number behind them, in brackets.
@@ -152,10 +140,10 @@ fn put_failure(refusals: &mut impl Write, what: &[u8], error: io::Error) -> io::
 
 // Opens the file of this name. A name is UTF-8.
 fn open_file<R: Files>(rt: &R, name: &[u8]) -> io::Result<R::File> {
-    match std::str::from_utf8(name) {
-        Ok(path) => File::open(rt, path),
-        Err(_) => Err(io::Error::from_raw_os_error(EINVAL)),
-    }
+    let Ok(path) = std::str::from_utf8(name) else {
+        return Err(io::Error::from_raw_os_error(EINVAL));
+    };
+    File::open(rt, path)
 }
 
 // The file of this name; or nothing, and a line says why.
@@ -190,12 +178,10 @@ fn open_named<R: Env + Files>(
 }
 
 fn format_by(digit: u8) -> u16 {
-    if digit == b'1' {
-        1
-    } else if digit == b'2' {
-        2
-    } else {
-        0
+    match digit {
+        b'1' => 1,
+        b'2' => 2,
+        _ => 0,
     }
 }
 
@@ -225,9 +211,9 @@ fn read_role<R: Env + Files + Input>(
     put_policy(
         out,
         refusals,
-        &text[0..n],
+        &text[..n],
         format_named(rt),
-        &listing[0..size],
+        &listing[..size],
     )
 }
 
@@ -244,7 +230,7 @@ fn write_role<R: Env + Files + Input>(
     let n = read_full(&mut file, &mut text)?;
     let mut policy = [0u8; 8193];
     let size = read_full(&mut rt.reader(), &mut policy)?;
-    put_marks(out, refusals, &text[0..n], &policy[0..size])
+    put_marks(out, refusals, &text[..n], &policy[..size])
 }
 
 fn put_usage(refusals: &mut impl Write) -> io::Result<()> {
@@ -254,15 +240,15 @@ fn put_usage(refusals: &mut impl Write) -> io::Result<()> {
 
 // Is this the verb, and are there so many arguments, the program's own name among them?
 fn is_told(rt: &impl Env, told: &[u8], verb: &[u8], count: usize) -> bool {
-    argument_count(rt) == count && is_same(told, verb)
+    argument_count(rt) == count && told == verb
 }
 
 fn main(rt: HostRuntime) -> io::Result<()> {
     let mut told = [0u8; 5];
     let n = argument(&rt, 1, &mut told);
-    if is_told(&rt, &told[0..n], b"read", 4) {
+    if is_told(&rt, &told[..n], b"read", 4) {
         read_role(&rt, &mut rt.stdout(), &mut rt.stderr())
-    } else if is_told(&rt, &told[0..n], b"write", 3) {
+    } else if is_told(&rt, &told[..n], b"write", 3) {
         write_role(&rt, &mut rt.stdout(), &mut rt.stderr())
     } else {
         put_usage(&mut rt.stderr())

@@ -12,10 +12,8 @@ fn main(rt: HostRuntime) -> io::Result<()> {
     let mut text = [0u8; 65539];
     let n = read_full(&mut rt.reader(), &mut text)?;
     let mut words = [0u16; 1800];
-    let told = read_dtd(&text[0..n], &mut words);
-    if told.number > 0 {
-        put_refusal(&mut rt.stderr(), b"dtd", told.number, told.place)
-    } else {
-        put_table(&mut rt.stdout(), &words)
+    match read_dtd(&text[..n], &mut words) {
+        Ok(_) => put_table(&mut rt.stdout(), &words),
+        Err(refusal) => put_refusal(&mut rt.stderr(), b"dtd", refusal.number(), refusal.place()),
     }
 }
