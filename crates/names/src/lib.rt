@@ -31,11 +31,11 @@ pub fn first_misnamed(s: &[u8], names: &NameList) -> Option<usize>
     let mut at = 0;
     let mut m = 0;
     // A while: declarations have any length.
-    while let Some(Declared { name, body }) = declaration_from(s, at) {
-        if let Some(k) = first_wrong(s, names, m, name, body) {
+    while let Some(declared) = declaration_from(s, at) {
+        if let Some(k) = first_wrong(s, names, m, declared) {
             return Some(k);
         }
-        at = place_behind(s, at, body);
+        at = place_behind(s, at, declared.body);
         m += 1;
     }
     None

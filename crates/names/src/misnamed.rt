@@ -4,7 +4,7 @@ ghost use Rattle.names.specs.Steps.Uses.{UsesRead};
 ghost use Rattle.names.specs.Steps.Wrong.{UnknownRead, WrongRead};
 
 use crate::list::NameList;
-use crate::walk::name_end;
+use crate::walk::{Declared, name_end};
 use scan::bytes::{Class, is, is_of};
 use scan::piece::blanks;
 
@@ -47,18 +47,12 @@ fn first_unknown(s: &[u8], names: &NameList, at: usize) -> Option<usize>
 }
 
 // The first name of declaration m that is declared before, or used and never declared.
-pub(crate) fn first_wrong(
-    s: &[u8],
-    names: &NameList,
-    m: usize,
-    name: usize,
-    body: usize,
-) -> Option<usize>
-    requires { body ≤ length s.now }
-    ensures { WrongRead s.now names.now.entries names.now.count m name body result }
+pub(crate) fn first_wrong(s: &[u8], names: &NameList, m: usize, declared: Declared) -> Option<usize>
+    requires { declared.body ≤ length s.now }
+    ensures { WrongRead s.now names.now.entries names.now.count m declared.name declared.body result }
 {
-    if names.number(s, name) < m {
-        return Some(name);
+    if names.number(s, declared.name) < m {
+        return Some(declared.name);
     }
-    first_unknown(s, names, first_use(s, body))
+    first_unknown(s, names, first_use(s, declared.body))
 }

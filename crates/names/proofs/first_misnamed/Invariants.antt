@@ -7,8 +7,8 @@ use Rattle.names.proofs.Gone.{Gone}
 use Rattle.names.proofs.Wrongs.{Right}
 use Rattle.names.proofs.first_misnamed.Given as goal
 
-abbrev pub invariant-loop-name : goal.invariant-loop-name
-invariant-loop-name l = (l.at ≤ length l.s) × (l.m ≤ l.at) × ((ds : List Declaration) → Items l.s 0 ds → Counted l.s ds l.names.entries l.names.count → Gone l.s ds l.m l.at × Right ds l.m)
+abbrev pub invariant-loop-declared : goal.invariant-loop-declared
+invariant-loop-declared l = (l.at ≤ length l.s) × (l.m ≤ l.at) × ((ds : List Declaration) → Items l.s 0 ds → Counted l.s ds l.names.entries l.names.count → Gone l.s ds l.m l.at × Right ds l.m)
 
-abbrev pub decreases-loop-name : goal.decreases-loop-name
-decreases-loop-name l = length l.s - l.at
+abbrev pub decreases-loop-declared : goal.decreases-loop-declared
+decreases-loop-declared l = length l.s - l.at
