@@ -20,6 +20,7 @@ pub fn collect(s: &[u8], names: &mut NameList)
     // A while: declarations have any length.
     while let Some(Declared { name, body }) = declaration_from(s, at) {
         names.enter(s, name);
+        names.count += 1;
         at = place_behind(s, at, body);
     }
 }

@@ -87,10 +87,9 @@ impl NameList {
         self.number_before(s, k, at)
     }
 
-    // Enters the name at a place as that of the next declaration, if that is one of the first 256.
+    // Enters the name at a place as that of the next declaration, if that is one of the first 256. It is still to be counted.
     pub(crate) fn enter(&mut self, s: &[u8], at: usize)
-        requires { self.old.count < length s.now }
-        ensures { Entered s.now self.old.entries self.old.count at self.new.entries × (self.new.count ≡ suc self.old.count) }
+        ensures { Entered s.now self.old.entries self.old.count at self.new.entries × (self.new.count ≡ self.old.count) }
     {
         if self.count < 256 && at < 65536 {
             let k = self.rank(s, at);
@@ -99,6 +98,5 @@ impl NameList {
             self.entries[2 * k] = at as u16;
             self.entries[2 * k + 1] = n as u16;
         }
-        self.count += 1;
     }
 }

@@ -1,5 +1,5 @@
 -- The loop keeps that the declarations so far are counted, their names listed, and the rest is left.
-use Rattle.std.proofs.Common.{arith}
+use Rattle.std.proofs.Common.{add-one, arith}
 use Rattle.names.proofs.Gone.{gone_start, gone_step, gone_more, gone_all, listed_more}
 use Rattle.names.proofs.Entering.{listed_none}
 use Rattle.names.proofs.collect.Goals as goal
@@ -16,7 +16,7 @@ loop-name-preserved c = let x = c.in-Some.ensures in
       λ ds y small.
           (let g = c.loop-name.invariant.2 ds y small in
           let s = gone_step g.0 x in
-          rw p.1 (gone_more s b, listed_more small s g.1 p.0)),
+          (rw (add-one c.enter.new.self.count, p.1) (gone_more s b, listed_more small s g.1 p.0))),
     )
 
 pub returns : goal.returns
