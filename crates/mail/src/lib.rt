@@ -12,7 +12,7 @@ ghost use Rattle.mail.specs.Answers.{Written, ReadFrom, WriteAnswer, ReadAnswer}
 ghost use Rattle.mail.specs.Steps.Opened.{Opened, SchemaRead, Sized};
 
 use dtd::read_format;
-use labels::put_labels;
+use labels::{Labels, put_labels};
 use mailing::put_lines;
 use policy::marks::check_marks;
 use reading::read_lines;
@@ -31,46 +31,39 @@ pub fn read_schema(text: &[u8], format: u16, words: &mut [u16]) -> Result<usize,
 }
 
 // How long the listing of marks is: its lines are put where there is no room for them.
-fn size_of(words: &[u16], names: &[u8], starts: &[u16], marks: &[u8]) -> usize
-    requires { Mailable words.now names.now starts.now marks.now }
-    ensures { Sized (label_in names.now starts.now) words.now marks.now result }
+fn size_of(words: &[u16], labels: Labels<'_>, marks: &[u8]) -> usize
+    requires { Mailable words.now labels.names.now labels.starts.now marks.now }
+    ensures { Sized (label_in labels.entry.names.now labels.entry.starts.now) words.now marks.now result }
 {
-    put_lines(words, names, starts, marks, &mut [])
+    put_lines(words, labels, marks, &mut [])
 }
 
 // Writes the listing of marks by a table and the labels of its types.
 fn write_by(
     words: &[u16],
-    names: &[u8],
-    starts: &[u16],
+    labels: Labels<'_>,
     marks: &[u8],
     out: &mut [u8],
 ) -> Result<usize, Refusal>
-    requires { Readable words.now names.now starts.now }
-    ensures { Written (label_in names.now starts.now) words.now marks.now out.old (number_in result) (place_in result) out.new }
+    requires { Readable words.now labels.names.now labels.starts.now }
+    ensures { Written (label_in labels.entry.names.now labels.entry.starts.now) words.now marks.now out.old (number_in result) (place_in result) out.new }
 {
     check_marks(marks, word_at(words, 7))?;
-    let size = size_of(words, names, starts, marks);
+    let size = size_of(words, labels, marks);
     if out.len() < size {
         return Err(Refusal::ResultLength);
     }
-    put_lines(words, names, starts, marks, out);
+    put_lines(words, labels, marks, out);
     Ok(size)
 }
 
 // Reads a listing into marks by a table and the labels of its types.
-fn read_by(
-    words: &[u16],
-    names: &[u8],
-    starts: &[u16],
-    listing: &[u8],
-    out: &mut [u8],
-) -> Result<(), Refusal>
-    requires { Readable words.now names.now starts.now }
-    ensures { ReadFrom (label_in names.now starts.now) words.now listing.now out.old (number_in result) (no_place_in result) out.new }
+fn read_by(words: &[u16], labels: Labels<'_>, listing: &[u8], out: &mut [u8]) -> Result<(), Refusal>
+    requires { Readable words.now labels.names.now labels.starts.now }
+    ensures { ReadFrom (label_in labels.entry.names.now labels.entry.starts.now) words.now listing.now out.old (number_in result) (no_place_in result) out.new }
 {
     let mut marks = [0u8; 4096];
-    read_lines(words, names, starts, listing, &mut marks)?;
+    read_lines(words, labels, listing, &mut marks)?;
     let v = word_at(words, 7);
     if out.len() < v {
         return Err(Refusal::ResultLength);
@@ -88,7 +81,11 @@ fn write_opened(text: &[u8], words: &[u16], marks: &[u8], out: &mut [u8]) -> Res
     let mut names = [0u8; 8192];
     let mut starts = [0u16; 257];
     put_labels(text, types(words), &mut names, &mut starts);
-    write_by(words, &names, &starts, marks, out)
+    let labels = Labels {
+        names: &names,
+        starts: &starts,
+    };
+    write_by(words, labels, marks, out)
 }
 
 // Reads a listing by a schema that was read. Not inlined either.
@@ -100,7 +97,11 @@ fn read_opened(text: &[u8], words: &[u16], listing: &[u8], out: &mut [u8]) -> Re
     let mut names = [0u8; 8192];
     let mut starts = [0u16; 257];
     put_labels(text, types(words), &mut names, &mut starts);
-    read_by(words, &names, &starts, listing, out)
+    let labels = Labels {
+        names: &names,
+        starts: &starts,
+    };
+    read_by(words, labels, listing, out)
 }
 
 // Writes the listing of marks, whatever they are, by DTD text and a format: refuses with 1, with what the text is refused with, or with 10, 11 or 12, and leaves the
