@@ -55,6 +55,7 @@ impl From<Answer> for Outcome {
 
     fn from(answer: Answer) -> Outcome {
         let breach = answer.breach;
+        let chain = breach.chain;
         Outcome {
             number: usize::from(answer.number),
             place: answer.place,
@@ -66,7 +67,7 @@ impl From<Answer> for Outcome {
             privilege: breach.privilege,
             forbidden: breach.forbidden,
             length: breach.length,
-            chain: breach.chain,
+            chain,
         }
     }
 }
