@@ -1,6 +1,6 @@
 // Entering the labels one by one, each behind those so far. Functions take every text; what does not fit is left out. Contracts cite
 // specs/Steps/Entered.
-ghost use Rattle.std.specs.Prelude.{◌≡◌, ◌%◌, ◌<◌, length};
+ghost use Rattle.std.specs.Prelude.{◌≡◌, ◌%◌, ◌<◌};
 ghost use Rattle.labels.specs.Labels.{digit};
 ghost use Rattle.labels.specs.Steps.Entered.{made_label, Entered, DeclaredRead};
 
@@ -10,7 +10,6 @@ use table::words::word_at;
 
 // Enters a name as the label of type x: it stands behind the labels so far, and the next one begins behind it.
 fn enter(name: &[u8], names: &mut [u8; 8192], starts: &mut [u16; 257], x: usize)
-    requires { (length names.old ≡ 8192) × (length starts.old ≡ 257) }
     ensures { Entered name.now names.old starts.old x names.new starts.new }
 {
     if 255 < x {
@@ -35,7 +34,7 @@ fn digit_of(n: usize) -> u8
 
 // Enters the label of the made type x.
 pub(crate) fn enter_made(names: &mut [u8; 8192], starts: &mut [u16; 257], x: usize)
-    requires { (length names.old ≡ 8192) × (length starts.old ≡ 257) × (x < 256) }
+    requires { x < 256 }
     ensures { Entered (made_label x) names.old starts.old x names.new starts.new }
 {
     if x < 10 {
@@ -54,7 +53,6 @@ pub(crate) fn enter_made(names: &mut [u8; 8192], starts: &mut [u16; 257], x: usi
 
 // Enters the names of the declared types, and answers how many there are.
 pub(crate) fn enter_declared(s: &[u8], names: &mut [u8; 8192], starts: &mut [u16; 257]) -> usize
-    requires { (length names.old ≡ 8192) × (length starts.old ≡ 257) }
     ensures { DeclaredRead s.now names.old starts.old names.new starts.new result }
 {
     starts[0] = 0;

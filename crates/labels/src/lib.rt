@@ -2,7 +2,7 @@
 // the made ones. Functions take every text; what they say is said of a text of the grammar. Contracts cite specs/Labels and specs/Steps/Booked.
 #![tactic(auto)]
 
-ghost use Rattle.std.specs.Prelude.{◌≡◌, ◌<◌, length};
+ghost use Rattle.std.specs.Prelude.{◌≡◌, ◌<◌};
 ghost use Rattle.labels.specs.Steps.Booked.{label_in, LabelsRead};
 
 mod entering;
@@ -34,7 +34,6 @@ impl<'a> Labels<'a> {
 
 // Puts the labels of the first e types of a text, one after another, and where each begins.
 pub fn put_labels(s: &[u8], e: usize, names: &mut [u8; 8192], starts: &mut [u16; 257])
-    requires { (length names.old ≡ 8192) × (length starts.old ≡ 257) }
     ensures { LabelsRead s.now e names.new starts.new }
 {
     let last = e.min(256);

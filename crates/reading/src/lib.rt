@@ -1,7 +1,7 @@
 // Reading the lines of a listing. Contracts cite specs/Steps/Reading.
 #![tactic(auto)]
 
-ghost use Rattle.std.specs.Prelude.{ℕ, ◌≡◌, length, get_or};
+ghost use Rattle.std.specs.Prelude.{ℕ, ◌≡◌, get_or};
 ghost use Rattle.table.specs.Refusals.{number_in, no_place_in};
 ghost use Rattle.labels.specs.Steps.Booked.{label_in};
 ghost use Rattle.reading.specs.Steps.Reading.{Readable, LinesRead};
@@ -22,7 +22,7 @@ pub fn read_lines(
     listing: &[u8],
     marks: &mut [u8; 4096],
 ) -> Result<(), Refusal>
-    requires { Readable words.now labels.names.now labels.starts.now × (length marks.old ≡ 4096) × ((p : ℕ) → get_or marks.old p 0 ≡ 0) }
+    requires { Readable words.now labels.names.now labels.starts.now × ((p : ℕ) → get_or marks.old p 0 ≡ 0) }
     ensures { LinesRead (label_in labels.entry.names.now labels.entry.starts.now) words.now listing.now (number_in result) (no_place_in result) marks.new }
 {
     let mut firsts = [0u16; 256];

@@ -1,10 +1,10 @@
 -- A listing at fault and a short result are refused; else the marks are copied. Assumes nothing.
-use Rattle.std.proofs.Common.{ℕ, List, ◌++◌, drop, refl, sym, ap, arith, length-take-le}
+use Rattle.std.proofs.Common.{ℕ, List, ◌++◌, drop, sym, ap, arith, length-take-le}
 use Rattle.mail.proofs.Giving.{unset_all, marks_there, short_marks, marks_put}
 use Rattle.mail.proofs.read_by.Goals as goal
 
 pub read_lines-requires : goal.read_lines-requires
-read_lines-requires c = (c.requires, refl, unset_all 4096)
+read_lines-requires c = (c.requires, unset_all 4096)
 
 pub returns-then-out-v : goal.returns-then-out-v
 returns-then-out-v c = short_marks c.requires.accepted c.word_at-v.ensures.is c.in_ok-read_lines.ensures c.if-out-v.true

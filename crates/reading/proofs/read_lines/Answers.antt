@@ -4,7 +4,7 @@ use Rattle.reading.proofs.Reached.{line_below, reached_start, reached_more, reac
 use Rattle.reading.proofs.read_lines.Goals as goal
 
 pub loop-at-init : goal.loop-at-init
-loop-at-init c = let p = c.requires in reached_start p.0.accepted p.1 p.2
+loop-at-init c = let p = c.requires in reached_start p.0.accepted c.told-marks p.1
 
 pub returns-in_default : goal.returns-in_default
 returns-in_default c = let p = c.requires.0 in

@@ -3,5 +3,4 @@ use Rattle.labels.proofs.Bookings.{entered}
 use Rattle.labels.proofs.entering.enter.Goals as goal
 
 pub returns : goal.returns
-returns c = let p = c.requires in
-    entered p.0 p.1 c.word_at.ensures.is c.put-end.ensures
+returns c = entered c.told-names c.told-starts c.word_at.ensures.is c.put-end.ensures

@@ -7,8 +7,7 @@ use Rattle.labels.proofs.entering.enter_declared.Goals as goal
 
 pub loop-name-init : goal.loop-name-init
 loop-name-init c = let a = c.args.starts.now in
-    let p = c.requires in
-    (omega arith, omega arith, p.0, length-set a 0 0 ∙ p.1, λ ds x s h. (gone_start x, booking_start a (omega (arith, p.1))))
+    (omega arith, omega arith, c.told-names, length-set a 0 0 ∙ c.told-starts, λ ds x s h. (gone_start x, booking_start a (omega (arith, c.told-starts))))
 
 pub loop-name-preserved : goal.loop-name-preserved
 loop-name-preserved c = let x = c.in-Some.ensures in
@@ -29,8 +28,8 @@ loop-name-preserved c = let x = c.in-Some.ensures in
 pub returns : goal.returns
 returns c = let x = c.in_default.ensures in
     record {
-      names_kept = c.loop-name.invariant.2 ∙ sym c.requires.0;
-      starts_kept = c.loop-name.invariant.3 ∙ sym c.requires.1;
+      names_kept = c.loop-name.invariant.2 ∙ sym c.told-names;
+      starts_kept = c.loop-name.invariant.3 ∙ sym c.told-starts;
       of = λ ds y short few. (let g = c.loop-name.invariant.4 ds y short few in
           (gone_all g.0 x, g.1));
     }

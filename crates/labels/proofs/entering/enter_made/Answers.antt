@@ -13,5 +13,5 @@ returns-then-x-lt100 c = let x = c.args.x in
 
 pub returns : goal.returns
 returns c = entered_as
-    (made_hundreds c.args.x c.digit_of-2.result c.digit_of-3.result c.digit_of-4.result (omega arith) (omega (arith, c.requires.2)) c.digit_of-2.ensures c.digit_of-3.ensures c.digit_of-4.ensures)
+    (made_hundreds c.args.x c.digit_of-2.result c.digit_of-3.result c.digit_of-4.result (omega arith) (omega (arith, c.requires)) c.digit_of-2.ensures c.digit_of-3.ensures c.digit_of-4.ensures)
     c.enter-2.ensures
