@@ -1,6 +1,6 @@
 -- Sheets add up: the sheet of two runs of roles, one after another, is the sum of their sheets; and while the roles are a 32-bit number, no sum is refused.
 -- Assumes nothing.
-use Rattle.std.proofs.Common.{ℕ, ◌+◌, ◌*◌, ◌≤◌, ◌<◌, ◌≡◌, sym, ap, ◌∙◌, List, ◌++◌, arith, add-mul, length, get_or, take, drop, length-append, length-drop}
+use Rattle.std.proofs.Common.{ℕ, zero, suc, ◌+◌, ◌*◌, ◌≤◌, ◌<◌, ◌≡◌, sym, ap, ◌∙◌, List, ◌++◌, arith, add-mul, length, get_or, take, drop, length-append, length-drop}
 use lib.Seq.{take-append-le, drop-append-le, drop-append-add}
 use Rattle.table.specs.Privilege.{privileges}
 use Rattle.table.specs.Check.{Accepted}
@@ -15,10 +15,9 @@ use Rattle.sheet.specs.Sheets.{RefusedRole, Has, RolesWith, mark_at, SheetOf}
 use Rattle.sheet.specs.Answers.{Kept, MonthAnswer, refused as no-month, done as month-done}
 use Rattle.sheet.specs.declared.Sheet.{Sheet}
 use Rattle.adding.specs.Sums.{SumOf}
-use Rattle.adding.specs.Answers.{AddAnswer, refused, done}
+use Rattle.adding.specs.Answers.{DoneAt, AddAnswer, refused, done}
 use Rattle.adding.specs.Steps.Checking.{Summable}
 use Rattle.adding.proofs.Answers.{summable_not, no_sum_number}
-use Rattle.adding.proofs.Holding.{both_done}
 
 module _ (ws : List ℕ) (a b : ℕ) (marks other : List ℕ) (size : length marks ≡ a * privileges ws) where
   abbrev v : ℕ
@@ -65,6 +64,12 @@ month : {ws : List ℕ} {roles : ℕ} {marks counts : List ℕ} {s : Sheet} {aft
     → Done ws roles marks counts s after
 month (no-month n e h) z = absurd (no_roles_number n (sym (ap (λ (s : Sheet). s.number) e) ∙ z))
 month (month-done a s r n p c k) z = record { accepted = a; size = s; room = r; sheet = c; kept = k }
+
+-- both sheets were done
+both_done : (s t : Sheet) → s.number ≡ 0 → t.number ≡ 0 → (k : ℕ) → k < 2 → DoneAt s t k
+both_done s t e f zero l = e
+both_done s t e f (suc zero) l = f
+both_done s t e f (suc (suc k)) l = absurd (omega arith)
 
 -- two months' calls that were done, and the sum of their sheets
 module _ {ws : List ℕ} {a b : ℕ} {marks other counts lent : List ℕ} {s t r : Sheet} {x y z : List ℕ} (f : MonthAnswer ws a marks counts s x) (e : s.number ≡ 0)

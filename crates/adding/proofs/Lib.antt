@@ -1,6 +1,5 @@
 -- Laws of the definitions of specs/, and what the proofs of src/ share.
 pub mod Answers
-pub mod Holding
 pub mod Summing
 pub mod Given
 pub mod Adding

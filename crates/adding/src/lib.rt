@@ -3,6 +3,7 @@
 #![tactic(auto)]
 
 ghost use Rattle.std.specs.Prelude.{◌≡◌, ℕ, ◌+◌, ◌*◌, ◌≤◌, ◌<◌, length};
+ghost use Rattle.table.specs.Refusals.{number_in, place_in};
 ghost use Rattle.table.specs.Steps.Found.{Lowest, Tells};
 ghost use Rattle.adding.specs.Sums.{add, CountsAdded, Held, FiguresHeld};
 ghost use Rattle.adding.specs.Answers.{Whole, AddAnswer};
@@ -10,7 +11,7 @@ ghost use Rattle.adding.specs.Steps.Checking.{CountsHeld, SumChecked};
 
 use leaders::leaders_of;
 use sheet::{Figures, Sheet, done_with, refused};
-use table::{Checked, Found, check_table};
+use table::{Refusal, check_table};
 
 // Do 32 bits hold the sum?
 fn is_held(a: u32, b: u32) -> bool
@@ -31,16 +32,11 @@ fn counts_held(counts: &[u32], more: &[u32], p: usize) -> bool
 }
 
 // The lowest of v privileges of which they do not.
-fn lowest_over(counts: &[u32], more: &[u32], v: usize) -> Found
+fn lowest_over(counts: &[u32], more: &[u32], v: usize) -> Option<usize>
     requires { Whole v counts.now more.now }
     ensures { Lowest (CountsHeld counts.now more.now) v result }
 {
-    for p in 0..v {
-        if !counts_held(counts, more, p) {
-            return Found::At(p);
-        }
-    }
-    Found::Nothing
+    (0..v).find(|&p| !counts_held(counts, more, p))
 }
 
 // Do they hold the sums of the figures?
@@ -54,47 +50,33 @@ fn figures_held(f: Figures, g: Figures) -> bool
         & is_held(f.refused, g.refused)
 }
 
-fn told(number: u8, place: usize) -> Checked
-    ensures { (result.number ≡ number) × (result.place ≡ place) }
-{
-    Checked { number, place }
-}
-
-// Can the sheets be added? 0 and V, or why they cannot be: 1 to 9, 12, 19, 29 or 30.
+// Can the sheets be added? V, or why they cannot be: 1 to 9, 12, 19, 29 or 30.
 fn check_sum(
     words: &[u16],
     sheet: Sheet,
     counts: &[u32],
     more: Sheet,
     more_counts: &[u32],
-) -> Checked
-    ensures { SumChecked words.now sheet counts.now more more_counts.now result.number result.place }
+) -> Result<usize, Refusal>
+    ensures { SumChecked words.now sheet counts.now more more_counts.now (number_in result) (place_in result) }
 {
-    let table = check_table(words);
-    if table.number != 0 {
-        return table;
-    }
-    let v = table.place;
-    if counts.len() < 3 * v {
-        return told(12, 0);
-    }
-    if more_counts.len() < 3 * v {
-        return told(12, 0);
+    let v = check_table(words)?;
+    if counts.len() < 3 * v || more_counts.len() < 3 * v {
+        return Err(Refusal::ResultLength);
     }
     if sheet.number != 0 {
-        return told(29, 0);
+        return Err(Refusal::RefusedSheet(0));
     }
     if more.number != 0 {
-        return told(29, 1);
+        return Err(Refusal::RefusedSheet(1));
     }
-    let found = lowest_over(counts, more_counts, v);
-    if let Found::At(p) = found {
-        return told(30, p);
+    if let Some(p) = lowest_over(counts, more_counts, v) {
+        return Err(Refusal::SumTooLarge(p));
     }
     if !figures_held(sheet.figures, more.figures) {
-        return told(30, v);
+        return Err(Refusal::SumTooLarge(v));
     }
-    table
+    Ok(v)
 }
 
 // The sums of the figures.
@@ -132,11 +114,10 @@ pub fn add_sheets(
 ) -> Sheet
     ensures { AddAnswer words.now sheet counts.old more more_counts.now result counts.new }
 {
-    let checked = check_sum(words, sheet, counts, more, more_counts);
-    if checked.number != 0 {
-        return refused(checked.number as usize, checked.place);
-    }
-    let v = checked.place;
+    let v = match check_sum(words, sheet, counts, more, more_counts) {
+        Ok(v) => v,
+        Err(refusal) => return refused(refusal),
+    };
     add_counts(counts, more_counts, v);
     let figures = added(sheet.figures, more.figures);
     done_with(figures, leaders_of(&counts[0..3 * v]))
