@@ -27,9 +27,6 @@ holds_on false t p = absurd (t p)
 tells_kept : {A : Type 0} (r : Bool) → ¬ A → Tells ((r ≡ true) ⊎ A) r
 tells_kept r d = tells_by r inl (λ e q. elim q [ inl h ↦ true≢false (sym h ∙ e) | inr a ↦ d a ])
 
-pub open_start : {G : ℕ → Type 0} {kids old : List ℕ} → length old ≡ 256 → OpenedSoFar G kids 0 old old
-open_start {old = old} h = record { within = omega arith; size = h; tells = λ z l. tells_kept (is_open old z) (λ a. let k = a.low in omega arith) }
-
 module _ {G : ℕ → Type 0} {kids old new : List ℕ} {n : ℕ} (s : OpenedSoFar G kids n old new) (l : n < length kids) where
   more : (z : ℕ) → (is_open old z ≡ true) ⊎ Among G kids n z → (is_open old z ≡ true) ⊎ Among G kids (n + 1) z
   more z (inl e) = inl e
@@ -60,17 +57,6 @@ module _ {G : ℕ → Type 0} {kids old new : List ℕ} {n : ℕ} (s : OpenedSoF
       go z k (no d) =
           rw (get_or-set_other new c z 1 0 d)
           (tells_as (more z) (less z (λ g. d (sym g.1 ∙ sym e))) (is_open new z) (s.tells z k))
-
-pub open_end : {G : ℕ → Type 0} {kids old new : List ℕ} {n : ℕ} → OpenedSoFar G kids n old new → length kids ≤ n → KidsOpened G kids old new
-open_end {G} {kids} {old} {new} {n} s h = record { size = s.size; tells = λ z k. tells_as (out z) (into z) (is_open new z) (s.tells z k) }
-  where
-    out : (z : ℕ) → (is_open old z ≡ true) ⊎ Among G kids n z → (is_open old z ≡ true) ⊎ ((i : ℕ) × (i < length kids) × (get_or kids i 0 ≡ z) × G i)
-    out z (inl e) = inl e
-    out z (inr a) = inr (a.at, omega (arith, s.within, a.low), a.is, a.opens)
-
-    into : (z : ℕ) → (is_open old z ≡ true) ⊎ ((i : ℕ) × (i < length kids) × (get_or kids i 0 ≡ z) × G i) → (is_open old z ≡ true) ⊎ Among G kids n z
-    into z (inl e) = inl e
-    into z (inr (i, l, e, g)) = inr (record { at = i; low = omega arith; is = e; opens = g })
 
 -- opened for another reason that comes to the same
 pub kids_as : {G H : ℕ → Type 0} {kids old new : List ℕ} → ((i : ℕ) → i < length kids → G i → H i) → ((i : ℕ) → i < length kids → H i → G i)
