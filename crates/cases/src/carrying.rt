@@ -4,6 +4,7 @@ use super::output::put_pair;
 use carry::carry_marks;
 use std::io;
 use std::io::{Read, Write};
+use verdict::Answer;
 
 // The call on a case.
 fn put_carried(
@@ -17,7 +18,7 @@ fn put_carried(
     lost: &mut [u8],
 ) -> io::Result<()> {
     let answer = carry_marks(old_words, old_marks, new_words, new_numbers, out, lost);
-    put_pair(output, case, "carry", answer, out, lost)
+    put_pair(output, case, "carry", Answer::from(answer), out, lost)
 }
 
 // Kind 4: an old table, its marks, a new table, the new numbers, a result and its lost bytes as lent.

@@ -4,6 +4,7 @@ use super::output::{put_answer, put_run, put_words};
 use editing::edit_mark;
 use std::io;
 use std::io::{Read, Write};
+use verdict::Answer;
 
 // The call of one edit. No mark is over 255.
 fn put_edit(
@@ -16,7 +17,7 @@ fn put_edit(
     mark: u32,
 ) -> io::Result<()> {
     let answer = edit_mark(words, marks, kept, privilege as usize, (mark % 256) as u8);
-    put_answer(output, case, "edit", answer)?;
+    put_answer(output, case, "edit", Answer::from(answer))?;
     put_run(output, marks)?;
     put_words(output, kept)?;
     writeln!(output)

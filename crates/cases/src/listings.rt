@@ -1,11 +1,11 @@
 // Cases of listings, kinds 7 and 8.
 use super::input::next_bytes;
-use super::output::put_written;
+use super::output::{placed, put_written};
 use mail::{read_listing, write_listing};
 use std::io;
 use std::io::{Read, Write};
 use stream::next_number;
-use verdict::{Answer, refused};
+use verdict::Answer;
 
 // The format of a listing, a 32-bit number, which is no run. None is over 65,535.
 fn next_format(input: &mut impl Read) -> io::Result<u16> {
@@ -34,11 +34,6 @@ fn run_listing<F: FnOnce(&[u8], u16, &[u8], &mut [u8]) -> Answer>(
     put_written(output, case, call, answer, &out[..k])
 }
 
-fn written(text: &[u8], format: u16, marks: &[u8], out: &mut [u8]) -> Answer {
-    let told = write_listing(text, format, marks, out);
-    refused(told.number, told.place)
-}
-
 // Kind 7: the run is marks.
 pub(crate) fn run_write(
     case: usize,
@@ -46,12 +41,14 @@ pub(crate) fn run_write(
     output: &mut impl Write,
 ) -> io::Result<()> {
     let mut marks = [0u8; 8192];
-    run_listing(case, input, output, "write_listing", &mut marks, written)
-}
-
-fn listed(text: &[u8], format: u16, listing: &[u8], out: &mut [u8]) -> Answer {
-    let told = read_listing(text, format, listing, out);
-    refused(told.number, told.place)
+    run_listing(
+        case,
+        input,
+        output,
+        "write_listing",
+        &mut marks,
+        |text, format, marks, out| placed(write_listing(text, format, marks, out)),
+    )
 }
 
 // Kind 8: the run is a listing.
@@ -61,5 +58,12 @@ pub(crate) fn run_read(
     output: &mut impl Write,
 ) -> io::Result<()> {
     let mut listing = [0u8; 98304];
-    run_listing(case, input, output, "read_listing", &mut listing, listed)
+    run_listing(
+        case,
+        input,
+        output,
+        "read_listing",
+        &mut listing,
+        |text, format, listing, out| Answer::from(read_listing(text, format, listing, out)),
+    )
 }

@@ -23,11 +23,10 @@ use sheets::{run_sheet, run_sum};
 use std::io;
 use std::io::{Read, Write};
 use stream::next_kind;
-use table::Found;
 
 // Makes the calls on the next case, if there is one of a known kind.
 fn run_case(case: usize, input: &mut impl Read, output: &mut impl Write) -> io::Result<bool> {
-    let Found::At(kind) = next_kind(input)? else {
+    let Some(kind) = next_kind(input)? else {
         return Ok(false);
     };
     match kind {

@@ -45,13 +45,13 @@ fn put_maps(
         output,
         case,
         "verdict_maps",
-        judge_maps(words, allowed, forbidden),
+        Answer::from(judge_maps(words, allowed, forbidden)),
     )?;
     put_result(output, case, "complete_maps", lent, |a, f| {
-        complete_maps(words, allowed, forbidden, a, f)
+        Answer::from(complete_maps(words, allowed, forbidden, a, f))
     })?;
     put_result(output, case, "mend_maps", lent, |a, f| {
-        mend_maps(words, allowed, forbidden, a, f)
+        Answer::from(mend_maps(words, allowed, forbidden, a, f))
     })?;
     let answer = judge_mend_maps(
         words,
@@ -60,7 +60,7 @@ fn put_maps(
         proposed.allowed,
         proposed.forbidden,
     );
-    put_line(output, case, "propose_maps", answer)
+    put_line(output, case, "propose_maps", Answer::from(answer))
 }
 
 // Kind 3: a table, an allowed and a forbidden map, the maps of the result as lent, a proposed pair of maps.

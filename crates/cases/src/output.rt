@@ -1,7 +1,8 @@
 // Lines of answers.
 use std::io;
 use std::io::Write;
-use verdict::{Answer, Breach, number_of};
+use table::Refusal;
+use verdict::{Answer, Breach, number_of, refused};
 
 // A run, two hexadecimal digits a byte.
 pub(crate) fn put_run(output: &mut impl Write, run: &[u8]) -> io::Result<()> {
@@ -28,6 +29,14 @@ pub(crate) fn put_numbers(output: &mut impl Write, run: &[u32]) -> io::Result<()
         write!(output, "{:08x}", number.swap_bytes())?;
     }
     Ok(())
+}
+
+// The answer of a call that gives a place where it refuses nothing.
+pub(crate) fn placed(told: Result<usize, Refusal>) -> Answer {
+    match told {
+        Ok(place) => refused(0, place),
+        Err(refusal) => refused(refusal.number(), refusal.place()),
+    }
 }
 
 // A breach, with its chain: the length, and the 17 places as a run.

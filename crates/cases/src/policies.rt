@@ -1,18 +1,13 @@
 // Cases of policies, kind 0.
 use super::input::{lend, next_bytes, next_words};
-use super::output::{put_line, put_written};
+use super::output::{placed, put_line, put_written};
 use completion::complete;
 use mending::mend;
 use proposing::judge_mend;
 use std::io;
 use std::io::{Read, Write};
 use table::check_table;
-use verdict::{Answer, judge_policy, refused};
-
-fn checked(words: &[u16]) -> Answer {
-    let told = check_table(words);
-    refused(told.number, told.place)
-}
+use verdict::{Answer, judge_policy};
 
 // A call that may write the result, on its own copy of it.
 fn put_result<F: FnOnce(&mut [u8]) -> Answer>(
@@ -39,17 +34,33 @@ fn put_policy(
     lent: &[u8],
     proposed: &[u8],
 ) -> io::Result<()> {
-    put_line(output, case, "check", checked(words))?;
-    put_line(output, case, "verdict", judge_policy(words, marks))?;
+    put_line(output, case, "check", placed(check_table(words)))?;
+    put_line(
+        output,
+        case,
+        "verdict",
+        Answer::from(judge_policy(words, marks)),
+    )?;
     put_result(
         output,
         case,
         "complete",
         lent,
-        |out| complete(words, marks, out),
+        |out| Answer::from(complete(words, marks, out)),
     )?;
-    put_result(output, case, "mend", lent, |out| mend(words, marks, out))?;
-    put_line(output, case, "propose", judge_mend(words, marks, proposed))
+    put_result(
+        output,
+        case,
+        "mend",
+        lent,
+        |out| Answer::from(mend(words, marks, out)),
+    )?;
+    put_line(
+        output,
+        case,
+        "propose",
+        Answer::from(judge_mend(words, marks, proposed)),
+    )
 }
 
 // Kind 0: a table, marks, a result as lent, proposed marks.

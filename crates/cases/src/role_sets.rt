@@ -4,6 +4,7 @@ use super::output::{put_answer, put_run, put_words};
 use roles::complete_roles;
 use std::io;
 use std::io::{Read, Write};
+use verdict::Answer;
 
 // The call on a case.
 fn put_roles(
@@ -14,7 +15,7 @@ fn put_roles(
     numbers: &mut [u16],
     out: &mut [u8],
 ) -> io::Result<()> {
-    let answer = complete_roles(words, marks, numbers, out);
+    let answer = Answer::from(complete_roles(words, marks, numbers, out));
     put_answer(output, case, "roles", answer)?;
     put_words(output, numbers)?;
     put_run(output, out)?;

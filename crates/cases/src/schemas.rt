@@ -1,19 +1,13 @@
 // Cases of DTD texts, kind 1.
 use super::input::{next_bytes, next_words};
-use super::output::{put_answer, put_words};
+use super::output::{placed, put_answer, put_words};
 use dtd::read_dtd;
 use std::io;
 use std::io::{Read, Write};
-use verdict::{Answer, refused};
-
-fn read(text: &[u8], out: &mut [u16]) -> Answer {
-    let told = read_dtd(text, out);
-    refused(told.number, told.place)
-}
 
 // The call on a case.
 fn put_dtd(output: &mut impl Write, case: usize, text: &[u8], out: &mut [u16]) -> io::Result<()> {
-    put_answer(output, case, "dtd", read(text, out))?;
+    put_answer(output, case, "dtd", placed(read_dtd(text, out)))?;
     put_words(output, out)?;
     writeln!(output)
 }
