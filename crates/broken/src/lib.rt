@@ -1,5 +1,6 @@
 // Which of the three conditions a policy breaks somewhere, each asked by itself: one pass over the types, by the flags that tell below which types
 // something is forbidden. Contracts cite specs/Breaks, and specs/Steps/Asking for the parts.
+// Arrays have a fixed size: nothing here allocates.
 #![tactic(auto)]
 
 ghost use Rattle.std.specs.Prelude.{◌≡◌, true, ◌≢◌, ℕ, ◌<◌, length, get_or};

@@ -1,4 +1,5 @@
 // Keeping the marks when the schema moves. Contracts cite specs/Answers and specs/Carries; specs/Steps for the parts.
+// Arrays have a fixed size: nothing here allocates.
 #![tactic(auto)]
 
 ghost use Rattle.std.specs.Prelude.{◌≡◌, ℕ};

@@ -1,4 +1,5 @@
 // The chain of a breach: the fewest allowed replacements from one position to another. Contracts cite specs/Chain, and specs/Steps/Ways for the parts.
+// Arrays have a fixed size: nothing here allocates.
 #![tactic(auto)]
 
 ghost use Rattle.std.specs.Prelude.{◌≡◌, [], ◌≤◌};

@@ -1,4 +1,5 @@
 // From a text of the grammar to the code of its declarations. Contracts cite specs/Steps.
+// Arrays have a fixed size: nothing here allocates.
 #![tactic(auto)]
 
 ghost use Rattle.std.specs.Prelude.{suc, ◌≤◌, ◌<◌, min, ◌≡◌, length};

@@ -1,4 +1,5 @@
 // The least completion of a policy. Contracts cite specs/Answers and specs/Completions.
+// Arrays have a fixed size: nothing here allocates.
 #![tactic(auto)]
 
 ghost use Rattle.verdict.specs.Results.{completed_answer};

@@ -1,4 +1,5 @@
 // Reading DTD text into a table. The contracts of read_format and read_dtd cite specs/Answer; those of their passes cite specs/Steps.
+// Arrays have a fixed size: nothing here allocates.
 #![tactic(auto)]
 
 ghost use Rattle.std.specs.Prelude.{List};

@@ -1,5 +1,6 @@
 // One mark edited without a rescan: the store keeps for each type what is forbidden below it, and a call writes one mark, the entries of the types that
 // its privilege is below, and nothing else. Contracts cite specs/Answer and specs/Entries; specs/Steps for the parts.
+// Arrays have a fixed size: nothing here allocates.
 #![tactic(auto)]
 
 ghost use Rattle.table.specs.Refusals.{number_in, no_place_in};

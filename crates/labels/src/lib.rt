@@ -1,5 +1,6 @@
 // The names of all types of a DTD text, one after another in a run of bytes: those of the declared types as they stand in the text, and those of
 // the made ones. Functions take every text; what they say is said of a text of the grammar. Contracts cite specs/Labels and specs/Steps/Booked.
+// Arrays have a fixed size: nothing here allocates.
 #![tactic(auto)]
 
 ghost use Rattle.std.specs.Prelude.{◌≡◌, ◌<◌};

@@ -1,5 +1,6 @@
 // The privileges that are allowed most often: one pass in ascending order, in which most do not enter among the leaders. Contracts cite specs/Leaders,
 // and specs/Steps/Entering for the parts.
+// Arrays have a fixed size: nothing here allocates.
 #![tactic(auto)]
 
 ghost use Rattle.std.specs.Prelude.{◌≡◌, ◌+◌, ◌/◌, ◌≤◌, ◌<◌, length};

@@ -1,4 +1,5 @@
 // Text put into a lent buffer. Contracts cite specs/Text, specs/Steps/Putting and crate runs.
+// Arrays have a fixed size: nothing here allocates.
 #![tactic(auto)]
 
 ghost use Rattle.std.specs.Prelude.{◌+◌, ◌*◌, ◌≤◌, ◌∷◌, length};

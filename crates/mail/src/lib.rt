@@ -1,5 +1,6 @@
 // A listing people can mail: writing one of marks, and reading one into marks, by DTD text and a format. Contracts cite specs/Answers, and specs/Steps/Opened for
 // the parts.
+// Arrays have a fixed size: nothing here allocates.
 #![tactic(auto)]
 
 ghost use Rattle.std.specs.Prelude.{◌≡◌, length};

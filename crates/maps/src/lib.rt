@@ -1,5 +1,6 @@
 // Verdict, completion, mending and judging over marks as two bit maps: they are spelled into marks, and the result's marks into maps. Contracts cite
 // specs/Answers, and specs/Maps of crate pairs.
+// Arrays have a fixed size: nothing here allocates.
 #![tactic(auto)]
 
 ghost use Rattle.std.specs.Prelude.{◌≡◌, List, ℕ, take};

@@ -1,4 +1,5 @@
 // Mending a policy by the stated rule. Contracts cite specs/Answers and specs/Mends.
+// Arrays have a fixed size: nothing here allocates.
 #![tactic(auto)]
 
 ghost use Rattle.verdict.specs.Results.{counted_answer};

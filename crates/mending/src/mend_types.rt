@@ -31,6 +31,7 @@ fn mend_renewed(
     ensures { Cleaned words.now flags.now x m.old m.new result }
 {
     let mut count = 0;
+    // A while: one mark goes at a time, until there is no breach.
     while let Some(p) = star_taken(words, m, flags, x, kids, n) {
         m[p] = 2;
         count += 1;
@@ -72,6 +73,7 @@ fn mend_choice(
     let mut forbidden = [0u16; 16];
     read_rows(m, n, &mut allowed, &mut forbidden);
     let mut count = 0;
+    // A loop: one mark goes at a time, until there is no breach; what is reached is asked anew for each.
     loop {
         let square = reached_by(words, m, x, n, allowed);
         let taken = next_taken(words, m, flags, x, kids, n, &square, &allowed, &forbidden);

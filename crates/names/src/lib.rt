@@ -1,4 +1,5 @@
 // Walking through the declarations of a text that is of the grammar, and its names. Contracts cite specs/Steps.
+// Arrays have a fixed size: nothing here allocates.
 #![tactic(auto)]
 
 ghost use Rattle.names.specs.Steps.Names.{Collected, MisnamedRead};

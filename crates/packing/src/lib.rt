@@ -1,4 +1,5 @@
 // A table in a file: its words, low byte first, as judge reads them; and the line with which a program refuses its input. Contracts cite specs/Bytes.
+// Arrays have a fixed size: nothing here allocates.
 #![tactic(auto)]
 
 ghost use Rattle.std.specs.Prelude.{◌+◌, ◌*◌, ◌/◌, ◌%◌, ◌<◌, ◌≤◌, min, ◌≡◌, length, get_or, set, OnOk};

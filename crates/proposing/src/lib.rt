@@ -1,4 +1,5 @@
 // Judging a mend that somebody proposes. Contracts cite specs/Answers and specs/Proposals.
+// Arrays have a fixed size: nothing here allocates.
 #![tactic(auto)]
 
 ghost use Rattle.std.specs.Prelude.{◌≡◌};

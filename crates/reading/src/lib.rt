@@ -1,4 +1,5 @@
 // Reading the lines of a listing. Contracts cite specs/Steps/Reading.
+// Arrays have a fixed size: nothing here allocates.
 #![tactic(auto)]
 
 ghost use Rattle.std.specs.Prelude.{ℕ, ◌≡◌, get_or};

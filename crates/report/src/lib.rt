@@ -1,4 +1,5 @@
 // What the program judge prints for a file. Contracts cite specs/File for what the file lends and specs/Report for the lines.
+// Arrays have a fixed size: nothing here allocates.
 #![tactic(auto)]
 
 ghost use Rattle.std.specs.Prelude.{◌+◌, ◌*◌, ◌≤◌, [], ◌++◌, ◌≡◌, length, take};

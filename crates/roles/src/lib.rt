@@ -1,4 +1,5 @@
 // The least completions of all roles of a show at once: one table, and the marks of the roles one after another. Contracts cite specs/Answers.
+// Arrays have a fixed size: nothing here allocates.
 #![tactic(auto)]
 
 ghost use Rattle.std.specs.Prelude.{◌≡◌, ◌*◌, ◌≤◌, length};

@@ -1,5 +1,6 @@
 // The monthly sheet: for many roles over one table, how many are clean, break each condition and are refused, how often each privilege is allowed,
 // forbidden and unset, and which are allowed most often. Contracts cite specs/Sheets and specs/Answers.
+// Arrays have a fixed size: nothing here allocates.
 #![tactic(auto)]
 
 ghost use Rattle.std.specs.Prelude.{◌≡◌};
@@ -25,7 +26,8 @@ pub struct Figures {
     pub refused: u32,
 }
 
-// What a call answers: number and place; the figures; how many leaders there are, and which, 0 in unused places.
+// What a call answers, as C sees it, and no Result, since sheets that were refused can be added too: number and place; the figures; how many leaders there
+// are, and which, 0 in unused places.
 #[repr(C)]
 #[derive(Clone, Copy)]
 pub struct Sheet {

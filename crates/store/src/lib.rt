@@ -1,5 +1,6 @@
 // The seventeen calls for programs in C and Rust: runs and lengths in, an outcome or a sheet out. Crate store_c exports each under the same name,
 // with the same clauses. Contracts cite specs/Outcomes for the outcome, and the definitions of the crate that makes the call for the answer and for the sheet.
+// Arrays have a fixed size: nothing here allocates.
 #![tactic(auto)]
 
 ghost use Rattle.std.specs.Prelude.{◌≡◌};

@@ -1,5 +1,6 @@
 // Runs of words, bytes and 32-bit numbers from a reader, for the programs cases and random: second/README.md has the form. And as many bytes of a reader as
 // there is room for.
+// Arrays have a fixed size: nothing here allocates.
 #![tactic(auto)]
 
 ghost use Rattle.std.specs.Prelude.{◌≡◌, ◌<◌, ◌≤◌, ℕ, length, take, IfOk, IfErr};

@@ -1,5 +1,6 @@
 // The schema table: reading its words, and checking it with refusals 1 to 9 and 19.
 // Contracts cite specs/Check for what a table must hold, and the other files of specs/ for what its words mean.
+// Arrays have a fixed size: nothing here allocates.
 #![tactic(auto)]
 
 ghost use Rattle.table.specs.Check.{TableAnswer};

@@ -12,7 +12,7 @@ use table::below::mark_below;
 use table::privilege::{gap_of, privileges_in};
 use table::words::types;
 
-// The lowest of some privileges, and how many they are; 0 and 0 for none.
+// The lowest of some privileges, and how many they are; 0 and 0 for none, as a store keeps them.
 #[derive(Clone, Copy)]
 pub struct Tally {
     pub lowest: usize,

@@ -1,5 +1,6 @@
 // The verdict on a policy: the three conditions, and the first breach of them.
 // Contracts cite specs/Answers for what the call answers, and specs/Conditions and specs/Breaches for what a verdict is.
+// Arrays have a fixed size: nothing here allocates.
 #![tactic(auto)]
 
 ghost use Rattle.std.specs.Prelude.{◌≡◌};
@@ -16,7 +17,7 @@ pub mod spoilt;
 use policy::marks::check_policy;
 use table::Refusal;
 
-// What a breach breaks.
+// What a breach breaks. None is a case of it: a breach holds one enum of these four.
 #[derive(Clone, Copy)]
 pub enum Condition {
     None,
@@ -47,7 +48,7 @@ pub struct Spot {
 }
 
 // A breach: where it is, the lowest forbidden privilege that breaks the condition there, how many do, and the chain from i to j: how many positions it
-// has, and they themselves. All 0 where there is none.
+// has, and they themselves. All 0 where there is none, as C sees it.
 #[derive(Clone, Copy)]
 pub struct Breach {
     pub condition: Condition,

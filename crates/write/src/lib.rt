@@ -1,4 +1,5 @@
 // From the code of a text's declarations to the words of their table. Contracts cite specs/Steps/Code.
+// Arrays have a fixed size: nothing here allocates.
 #![tactic(auto)]
 
 ghost use Rattle.std.specs.Prelude.{◌≤◌, List};
