@@ -1,4 +1,4 @@
-// Moving marks: both results before the first mark is moved, and one mark. Contracts cite specs/Steps/Scattering.
+// Moving marks: the lost bytes before the first mark is moved, and one mark. Contracts cite specs/Steps/Scattering.
 ghost use Rattle.std.specs.Prelude.{◌≡◌, ℕ, ◌+◌, ◌≤◌, ◌<◌, length, get_or};
 ghost use Rattle.carry.specs.Steps.Scattering.{Pair, Pairs, Scattered, set_byte};
 
