@@ -87,5 +87,8 @@ pub fn copy(marks: &[u8], m: &mut [u8])
     requires { length m.old ≡ length marks.now }
     ensures { m.new ≡ marks.now }
 {
-    m.copy_from_slice(marks);
+    // A loop: `copy_from_slice` would have the archive for C need memmove.
+    for p in 0..marks.len() {
+        m[p] = marks[p];
+    }
 }

@@ -15,7 +15,10 @@ pub fn put(bytes: &[u8], out: &mut [u8], at: usize) -> usize
     if out.len() < end {
         return end;
     }
-    out[at..end].copy_from_slice(bytes);
+    // A loop: `copy_from_slice` would have the archive for C need memmove.
+    for (k, byte) in bytes.iter().enumerate() {
+        out[at + k] = *byte;
+    }
     end
 }
 
