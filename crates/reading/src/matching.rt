@@ -5,6 +5,7 @@ ghost use Rattle.listing.specs.Line.{spaced};
 ghost use Rattle.reading.specs.Steps.Matching.{ended, blanked, Matched, Sought, SignRead};
 
 use labels::Labels;
+use runs::is_same;
 use table::words::word_at;
 
 // A number by the text that stands for it, and the place behind that text.
@@ -23,7 +24,7 @@ pub(crate) fn after(l: &[u8], at: usize, word: &[u8], stop: u8) -> Option<usize>
         return None;
     }
     let end = at + word.len();
-    if l[end] == stop && l[at..end] == word[..] {
+    if l[end] == stop && is_same(&l[at..end], word) {
         Some(end + 1)
     } else {
         None

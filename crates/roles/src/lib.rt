@@ -18,11 +18,14 @@ use table::{Refusal, check_ordered};
 use verdict::Condition;
 use verdict::breaches::first_breach;
 
-// Is a length that of so many stretches of v? The product can be more than a number holds.
+// Is a length that of so many stretches of v? Asked by division, since the product can be more than a number holds.
 fn is_product(length: usize, stretches: usize, v: usize) -> bool
     ensures { Tells (length ≡ stretches * v) result }
 {
-    stretches.checked_mul(v) == Some(length)
+    if v == 0 {
+        return length == 0;
+    }
+    length / v == stretches && stretches * v == length
 }
 
 // Completes one role's marks into its stretch, and tells its number: 11 or 16, with the stretch as it was, or 0.
