@@ -6,7 +6,8 @@ ghost use Rattle.scan.specs.Steps.Readers.{BlanksRead, SpaceRead, MaybeRead, Nam
 use crate::Stop;
 use crate::bytes::{Class, is, is_of};
 
-// White space from a place on, none or more.
+// White space from a place on, none or more. Not inlined: within its callers the loop takes more than twice as long.
+#[inline(never)]
 pub fn blanks(s: &[u8], at: usize) -> usize
     requires { at ≤ length s.now }
     ensures { BlanksRead s.now at result }
